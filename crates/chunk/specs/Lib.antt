@@ -1,0 +1,4 @@
+pub mod Piece
+pub mod Grammar
+pub mod Reading
+pub mod Semver

@@ -1,0 +1,16 @@
+-- The meaning: readers of chunks and Releases. Assumes nothing.
+use mathlib.Core.Bool.{Bool, cond}
+use mathlib.Core.List.{List}
+use Prim.Native.Nat.{ℕ}
+use Rattle.std.specs.declared.option.Option.{Option}
+use Rattle.std.specs.declared.option.Option.the-variants.{Some, None}
+use Rattle.parsers.specs.Bytes.{letterOrHyphen, orDigit, any}
+use Rattle.parsers.specs.Reading.{Reader, follow, behind-of, dotted-of, span, number-of}
+use Rattle.chunk.specs.Piece.{Piece, numeric, alphanum}
+
+-- the longest stretch of digits and q, as a text if a q is in it; otherwise the number there
+abbrev pub chunk-of : (ℕ → Bool) → Reader Piece
+chunk-of q bs = cond (any q (span (orDigit q) bs .0)) (Some (alphanum (span (orDigit q) bs .0), span (orDigit q) bs .1)) (follow (number-of bs) (λ n rest. Some (numeric n, rest)) None)
+
+abbrev pub release-of : Reader (List Piece)
+release-of = behind-of 45 (dotted-of (chunk-of letterOrHyphen))

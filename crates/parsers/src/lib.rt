@@ -1,0 +1,1 @@
+// Readers at a place in a text.
