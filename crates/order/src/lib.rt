@@ -1,15 +1,17 @@
-// Orders of elements, and of lists that hand out their parts.
+//! Orders of elements, and the one comparison of lists that hand out their parts.
 ghost use mathlib.Core.Path.{_≡_, refl};
-ghost use mathlib.Core.List.{List, map};
+ghost use mathlib.Core.List.{List};
 ghost use Prim.Native.Nat.{ℕ, _<_};
-ghost use lib.ListN.{length, getD, length-map};
+ghost use lib.ListN.{length, getD};
 ghost use denote.Ref.{now};
 ghost use Rattle.std.specs.Keys.{rank as byNumber};
-ghost use Rattle.order.specs.Laws.{NotGreater, Strict};
+ghost use Rattle.order.specs.Laws.{Strict};
 ghost use Rattle.order.specs.Lists.{lex};
 ghost use Rattle.order.specs.Orders.{Order, asks, listwise, bytewise, Same};
 use std::cmp::Ordering;
 
+/// An element order. Its meaning `order` gives one fixed answer for each two elements, and holds both laws:
+/// swapped gives the reverse, itself Equal.
 pub trait ElementOrder {
     ghost order: { Order Self };
 
@@ -17,12 +19,18 @@ pub trait ElementOrder {
         ensures { λ r. ⌜ r ≡ asks order (now (self .entry)) (now (other .entry)) ⌝ };
 }
 
+/// A strict order: an element order that is also transitive. The whole law is stated at its own meaning, `strictly`,
+/// which is tied to the element order.
 pub trait StrictOrder: ElementOrder {
+    ghost strictly: { Order Self };
+
     fn strict()
-        ensures { λ _. ⌜ Strict (order .answer) ⌝ };
+        ensures law { λ _. ⌜ Strict (strictly .answer) ⌝ }
+        ensures tie { λ _. ⌜ Same order strictly ⌝ };
 }
 
-// A list that hands out its parts.
+/// A list that hands out its parts: how many there are, and the part at an index. What it means is the list `parts`
+/// of the parts' values under the order `each`.
 pub trait Parts {
     type Part: ElementOrder + Copy;
 
@@ -41,12 +49,12 @@ pub trait Parts {
         requires { ⌜ i < count (now self) ⌝ }
         ensures { λ r. ⌜ each .value r ≡ getD (parts (now (self .entry))) i (each .value r) ⌝ };
 
-    // The parts' order is `each`.
+    /// The parts' own order is `each`.
     fn agrees()
         ensures { λ _. ⌜ Same (Part·ElementOrder .order) each ⌝ };
 }
 
-// The first unequal pair decides, and else the longer list is greater.
+/// The one list comparison: the first unequal pair decides, and otherwise the longer list is Greater.
 pub fn compare_lists<L: Parts>(a: &L, b: &L) -> Ordering
     ensures { λ r. ⌜ r ≡ lex (L·Parts .each .answer) (L·Parts .parts (now (a .entry))) (L·Parts .parts (now (b .entry))) ⌝ }
 {
@@ -64,7 +72,7 @@ pub fn compare_lists<L: Parts>(a: &L, b: &L) -> Ordering
     m.cmp(&n)
 }
 
-// Each list is an element.
+/// Every list is an element: both laws are carried from its parts.
 pub impl<L: Parts> ElementOrder for L as ListOrder {
     ghost order = { listwise (L·Parts .each) (L·Parts .parts) };
 
@@ -73,10 +81,13 @@ pub impl<L: Parts> ElementOrder for L as ListOrder {
     }
 }
 
+/// A list of strict parts is strict.
 pub impl<L: Parts> StrictOrder for L as ListStrict
 where
     L::Part: StrictOrder,
 {
+    ghost strictly = { listwise (L·Parts .each) (L·Parts .parts) };
+
     fn strict() {
         L::agrees();
         L::Part::strict();
@@ -92,18 +103,12 @@ pub impl ElementOrder for u8 as ByteOrder {
 }
 
 pub impl StrictOrder for u8 as ByteStrict {
+    ghost strictly = { bytewise };
+
     fn strict() {}
 }
 
-pub fn carried_over<T: StrictOrder>(a: &T, b: &T, c: &T) -> (Ordering, Ordering, Ordering)
-    ensures carried { λ r. ⌜ (NotGreater (r .0) → NotGreater (r .1) → NotGreater (r .2)) ⌝ }
-    ensures first { λ r. ⌜ r .0 ≡ asks (T·ElementOrder .order) (now (a .entry)) (now (b .entry)) ⌝ }
-{
-    T::strict();
-    (a.compare(b), b.compare(c), a.compare(c))
-}
-
-// A text as a list of bytes.
+/// A text as a list of bytes.
 #[derive(Clone, Copy)]
 pub struct Bytes<'a>(pub &'a [u8]);
 
@@ -131,41 +136,9 @@ pub impl<'a> Parts for Bytes<'a> as BytesParts {
     {}
 }
 
+/// Two texts, by bytes.
 pub fn compare_texts(a: &[u8], b: &[u8]) -> Ordering
     ensures { λ r. ⌜ r ≡ lex byNumber (now (a .entry)) (now (b .entry)) ⌝ }
 {
     compare_lists(&Bytes(a), &Bytes(b))
-}
-
-// Any slice of elements, as a list.
-#[derive(Clone, Copy)]
-pub struct Slice<'a, T>(pub &'a [T]);
-
-pub impl<'a, T: ElementOrder + Copy> Parts for Slice<'a, T> as SliceParts {
-    type Part = T;
-
-    ghost each = { T·ElementOrder .order };
-
-    ghost parts = { λ s. map (T·ElementOrder .order .value) (s .0 .now) };
-
-    ghost count = { λ s. length (s .0 .now) };
-
-    ghost counted = { λ s. length-map (s .0 .now) (T·ElementOrder .order .value) };
-
-    fn len(&self) -> usize {
-        self.0.len()
-    }
-
-    fn part(&self, i: usize) -> T {
-        self.0[i]
-    }
-
-    fn agrees() {}
-}
-
-// The laws at any element.
-pub fn compare_back<T: ElementOrder>(a: &T, b: &T) -> Ordering
-    ensures { λ r. ⌜ r ≡ asks (T·ElementOrder .order) (now (a .entry)) (now (b .entry)) ⌝ }
-{
-    b.compare(a).reverse()
 }

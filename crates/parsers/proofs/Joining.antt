@@ -62,9 +62,9 @@ module _ {C : Type 0} {R : Reader C} {P : Grammar C} {p : ℕ → Bool} (reads :
   behind-sound mark [] = tt
   behind-sound mark (b ∷ bs) = cond-both (eqb b mark) _ _ (λ o. found o (Front (Behind mark P) (b ∷ bs))) (λ e. go (R bs) (eqb-true b mark e) (reads .sound bs)) (λ _. tt)
     where
-    go : (o : Option (C × List ℕ)) → b ≡ mark → found o (Front P bs) → found o (Front (Behind mark P) (b ∷ bs))
-    go None e h = tt
-    go (Some r) e h = (mark ∷ h .0, behind (h .1), cc (e, h .2))
+      go : (o : Option (C × List ℕ)) → b ≡ mark → found o (Front P bs) → found o (Front (Behind mark P) (b ∷ bs))
+      go None e h = tt
+      go (Some r) e h = (mark ∷ h .0, behind (h .1), cc (e, h .2))
 
   behind-complete : {mark : ℕ} {w : List ℕ} {c : C} (rest : List ℕ) → Behind mark P w c → Stops p rest → behind-of mark R (w ++ rest) ≡ Some (c, rest)
   behind-complete {mark} rest (behind f) s = cond-true _ _ _ (eq-eqb mark mark refl) ∙ reads .complete rest f s
@@ -113,8 +113,8 @@ module _ {C : Type 0} {R : Reader C} {P : Grammar C} {p : ℕ → Bool} (reads :
   pub dotted-reads : Reads (dotted-of R) (Dotted P) (or 46 p)
   dotted-reads = record {
     sound = λ bs. follow-found (R bs) (λ c rest. Some (push c (many-of (behind-of 46 R) (length rest) rest))) None _ (λ o. found o (Front (Dotted P) bs)) (reads .sound bs)
-      (λ c rest h. let ih = many-sound (behind-reads reads 46) (length rest) rest in (h .0 ++ ih .0, dotted (h .1) (ih .1), h .2 ∙ ap (λ l. h .0 ++ l) (ih .2) ∙ sym (append-assoc (h .0) (ih .0) _)))
-      tt;
+        (λ c rest h. let ih = many-sound (behind-reads reads 46) (length rest) rest in (h .0 ++ ih .0, dotted (h .1) (ih .1), h .2 ∙ ap (λ l. h .0 ++ l) (ih .2) ∙ sym (append-assoc (h .0) (ih .0) _)))
+        tt;
     complete = dotted-complete;
   }
 
@@ -128,12 +128,12 @@ module _ {C : Type 0} {R : Reader C} {P : Grammar C} {p : ℕ → Bool} (reads :
   pub spelled-reads : Reads (spelled-of R) (Spelled P) p
   spelled-reads = record {
     sound = λ bs. follow-found (R bs) (λ _ rest. Some (take (length bs - length rest) bs, rest)) None _ (λ o. found o (Front (Spelled P) bs)) (reads .sound bs)
-      (λ c rest h. (h .0, subst (Spelled P (h .0)) (sym (took bs (h .0) rest (h .2))) (spelled (h .1)), h .2)) tt;
+        (λ c rest h. (h .0, subst (Spelled P (h .0)) (sym (took bs (h .0) rest (h .2))) (spelled (h .1)), h .2)) tt;
     complete = spelled-complete;
   }
     where
-    spelled-complete : {w c : List ℕ} (rest : List ℕ) → Spelled P w c → Stops p rest → spelled-of R (w ++ rest) ≡ Some (c, rest)
-    spelled-complete {w} rest (spelled f) s = rw (reads .complete rest f s, took (w ++ rest) w rest refl)
+      spelled-complete : {w c : List ℕ} (rest : List ℕ) → Spelled P w c → Stops p rest → spelled-of R (w ++ rest) ≡ Some (c, rest)
+      spelled-complete {w} rest (spelled f) s = rw (reads .complete rest f s, took (w ++ rest) w rest refl)
 
 pub some-same : {A : Type 0} {x y : A} → _≡_ {A = Option A} (Some x) (Some y) → x ≡ y
 some-same e = cc

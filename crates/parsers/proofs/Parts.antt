@@ -57,10 +57,10 @@ number-sound (b ∷ bs) =
     let P : Option (ℕ × List ℕ) → Type 0 = λ o. found o (Front Number (b ∷ bs)) in
     cond-both (eqb b 48) _ _ P (λ e. (48 ∷ [], nought, ap (λ x. x ∷ bs) (eqb-true b 48 e)))
     (λ ne. follow-found (stretch-of asciiDigit (b ∷ bs)) counted None _ P (stretch-reads asciiDigit .sound (b ∷ bs))
-      (λ v rest h. cond-both (leb (worth 0 v) limit) _ _ P
-        (λ small. as-number (eqb-false b 48 ne) (leb-true _ _ small) (h .1) (h .2))
-        (λ _. tt))
-      tt)
+    (λ v rest h. cond-both (leb (worth 0 v) limit) _ _ P
+    (λ small. as-number (eqb-false b 48 ne) (leb-true _ _ small) (h .1) (h .2))
+    (λ _. tt))
+    tt)
 
 number-complete : {w : List ℕ} {n : ℕ} (rest : List ℕ) → Number w n → Stops asciiDigit rest → number-of (w ++ rest) ≡ Some (n, rest)
 number-complete rest nought s = refl
@@ -69,4 +69,3 @@ number-complete rest (digits {b} {w} f e l) s =
 
 pub number-reads : Reads number-of Number asciiDigit
 number-reads = record { sound = number-sound; complete = number-complete }
-

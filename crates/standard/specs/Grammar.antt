@@ -85,8 +85,8 @@ pub data VersionCore : List ℕ → ℕ → ℕ → ℕ → Type 0 where
 pub data ValidSemver : List ℕ → Parts → Type 0 where
   plain : {c : List ℕ} {i j k : ℕ} → VersionCore c i j k → ValidSemver c (record { major = i; minor = j; patch = k; release = None; meta = None })
   released : {c r : List ℕ} {i j k : ℕ} {xs : List Piece} → VersionCore c i j k → PreRelease r xs
-    → ValidSemver (c ++ (45 ∷ r)) (record { major = i; minor = j; patch = k; release = Some xs; meta = None })
+      → ValidSemver (c ++ (45 ∷ r)) (record { major = i; minor = j; patch = k; release = Some xs; meta = None })
   built : {c m : List ℕ} {i j k : ℕ} → VersionCore c i j k → Build m
-    → ValidSemver (c ++ (43 ∷ m)) (record { major = i; minor = j; patch = k; release = None; meta = Some m })
+      → ValidSemver (c ++ (43 ∷ m)) (record { major = i; minor = j; patch = k; release = None; meta = Some m })
   full : {c r m : List ℕ} {i j k : ℕ} {xs : List Piece} → VersionCore c i j k → PreRelease r xs → Build m
-    → ValidSemver (c ++ (45 ∷ (r ++ (43 ∷ m)))) (record { major = i; minor = j; patch = k; release = Some xs; meta = Some m })
+      → ValidSemver (c ++ (45 ∷ (r ++ (43 ∷ m)))) (record { major = i; minor = j; patch = k; release = Some xs; meta = Some m })
