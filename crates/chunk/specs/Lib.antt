@@ -1,4 +1,3 @@
-pub mod Piece
 pub mod Grammar
 pub mod Reading
 pub mod Semver

@@ -6,7 +6,7 @@ use Rattle.std.specs.declared.option.Option.{Option}
 use Rattle.std.specs.declared.option.Option.the-variants.{Some, None}
 use Rattle.parsers.specs.Bytes.{letterOrHyphen, orDigit, any}
 use Rattle.parsers.specs.Reading.{Reader, follow, behind-of, dotted-of, span, number-of}
-use Rattle.chunk.specs.Piece.{Piece, numeric, alphanum}
+use Rattle.parsers.specs.Piece.{Piece, numeric, alphanum}
 
 -- the longest stretch of digits and q, as a text if a q is in it; otherwise the number there
 abbrev pub chunk-of : (ℕ → Bool) → Reader Piece

@@ -1,2 +1,5 @@
 pub mod Joining
 pub mod Parts
+pub mod Stretches
+pub mod Numbers
+pub mod Lists

@@ -1,4 +1,4 @@
--- What a chunk says, free of where it lies. Assumes nothing.
+-- What a part of a label says, free of where it lies. Assumes nothing.
 use mathlib.Core.List.{List}
 use Prim.Native.Nat.{ℕ}
 

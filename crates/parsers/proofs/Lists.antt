@@ -1,0 +1,98 @@
+-- The loop that reads parts joined by dots into a table. Assumes nothing.
+use mathlib.Core.Path.{_≡_, refl, sym, ap, subst, _∙_}
+use mathlib.Core.Bool.{Bool, true, false, cond}
+use mathlib.Core.Logic.{⊎-elim}
+use mathlib.Core.List.{List, [], _∷_, _++_, map, append-assoc, append-nil}
+use Prim.Native.Nat.{ℕ, zero, suc, _+_, _-_, _*_, _≤_, _<_}
+use native.Mathlib.Omega.{arith}
+use lib.ListN.{length, take, drop, getD, length-drop, length-take, length-map, length-append}
+use Rattle.std.specs.Holes.{between}
+use Rattle.std.specs.declared.option.Option.{Option}
+use Rattle.std.specs.declared.option.Option.the-variants.{Some, None}
+use Rattle.std.proofs.shelf.Lists.{drop-more, drop-all, map-push, length-push}
+use Rattle.std.proofs.shelf.Tests.{cond-true, cond-false, eq-eqb, ne-eqb, lt-ltb, cases-lt}
+use Rattle.parsers.specs.declared.table.Entry.{Entry}
+use Rattle.parsers.specs.declared.table.Table.{Table}
+use Rattle.parsers.specs.Reading.{Reader, follow, push, behind-of, many-of, dotted-of, spelled-of}
+use Rattle.parsers.specs.Places.{Part, entries-of, said-in, pushed, Gives, Marked}
+
+-- parts read before what a reader goes on with
+abbrev glue : {C : Type 0} → List C → List C × List ℕ → List C × List ℕ
+glue cs r = (cs ++ r .0, r .1)
+
+module _ {C : Type 0} (R : Reader C) (text : List ℕ) (mark at : ℕ) where
+  -- behind a mark, at a place
+  pub behind-mark : (end : ℕ) → Marked mark text at (Some end) → behind-of mark R (drop at text) ≡ R (drop end text)
+  behind-mark end (h, e, i) =
+      let n : at + 1 ≡ end = omega arith in
+      let z : behind-of mark R (drop at text) ≡ R (drop (at + 1) text) = rw (drop-more text at 0 h) (cond-true _ _ _ (eq-eqb _ _ e)) in
+      z ∙ ap (λ k. R (drop k text)) n
+
+  pub no-mark : Marked mark text at None → behind-of mark R (drop at text) ≡ None
+  no-mark m = ⊎-elim (λ h. rw (drop-more text at 0 h) (cond-false _ _ _ (ne-eqb _ _ (m h)))) (λ h. rw (drop-all at text h) refl) (cases-lt at (length text))
+
+-- a part behind a mark, at a place
+pub behind-gives : {U V : Type 0} (den : U → V) (R : Reader V) (text : List ℕ) (mark at end : ℕ) → Marked mark text at (Some end) → (r : Option (U × ℕ)) → Gives den R text end r → Gives den (behind-of mark R) text at r
+behind-gives den R text mark at end m None g = behind-mark R text mark at end m ∙ g
+behind-gives den R text mark at end m (Some r) g = (behind-mark R text mark at end m ∙ g .0, omega (arith, m .2, g .1), g .2)
+
+many-step : {C : Type 0} (D : Reader C) (k : ℕ) (bs : List ℕ) (c : C) (rest : List ℕ) → 0 < k → D bs ≡ Some (c, rest) → (j : ℕ) × (k ≡ j + 1) × (many-of D k bs ≡ push c (many-of D j rest))
+many-step D zero bs c rest h e = absurd (omega arith)
+many-step D (suc k) bs c rest h e = (k, omega arith, rw e refl)
+
+many-stop : {C : Type 0} (D : Reader C) (k : ℕ) (bs : List ℕ) → D bs ≡ None → many-of D k bs ≡ ([], bs)
+many-stop D zero bs e = refl
+many-stop D (suc k) bs e = rw e refl
+
+pub count-is : (t : Table) → length (entries-of t) ≡ t .count
+count-is t = length-take (t .count) (t .entries) ∙ omega (arith, t .few, t .wide)
+
+-- the table holds the parts from a place on, up to end; a number bounds what is left
+pub record Joined (p : Part) (text : List ℕ) (at end : ℕ) (t : Table) : Type 0 where
+  pub past : at < end
+  pub fits : end ≤ length text
+  pub room : 2 * length (entries-of t) ≤ end - at + 1
+  pub fuel : ℕ
+  pub enough : length text - end ≤ fuel
+  pub sofar : dotted-of (p .reader) (drop at text) ≡ Some (glue (said-in p text t) (many-of (behind-of 46 (p .reader)) fuel (drop end text)))
+
+module _ {p : Part} {text : List ℕ} where
+  pub start : (at end : ℕ) (e : Entry) (t : Table) → entries-of t ≡ e ∷ [] → Gives (p .says text) (p .reader) text at (Some (e, end)) → Joined p text at end t
+  start at end e t i g = record {
+    past = g .1;
+    fits = g .2;
+    room = omega (arith, ap length i, g .1);
+    fuel = length (drop end text);
+    enough = omega (arith, length-drop end text);
+    sofar = rw (g .0, i) refl;
+  }
+
+  module _ {at end : ℕ} {t : Table} (j : Joined p text at end t) where
+    pub more : length text ≤ 128 → (behind to : ℕ) (e : Entry) (u : Table) → entries-of u ≡ pushed t e → Marked 46 text end (Some behind) → Gives (p .says text) (p .reader) text behind (Some (e, to)) → Joined p text at to u
+    more short behind to e u i m g =
+        let few : t .count < 64 = omega (arith, count-is t, j .room, j .past, m .2, g .1, g .2) in
+        let is : entries-of u ≡ entries-of t ++ e ∷ [] = i ∙ cond-true _ _ _ (lt-ltb _ _ few) in
+        let s = many-step (behind-of 46 (p .reader)) (j .fuel) (drop end text) (p .says text e) (drop to text) (omega (arith, j .enough, m .0)) (behind-mark (p .reader) text 46 end behind m ∙ g .0) in
+        record {
+          past = omega (arith, j .past, m .2, g .1);
+          fits = g .2;
+          room = omega (arith, j .past, j .room, m .2, g .1, ap length is, length-push (entries-of t) e);
+          fuel = s .0;
+          enough = omega (arith, j .enough, s .1, m .2, g .1);
+          sofar = j .sofar ∙ rw (s .2, ap (map (p .says text)) is ∙ map-push (p .says text) (entries-of t) e, append-assoc);
+        }
+
+    finish : behind-of 46 (p .reader) (drop end text) ≡ None → Gives (said-in p text) (dotted-of (p .reader)) text at (Some (t, end))
+    finish e = (j .sofar ∙ rw (many-stop (behind-of 46 (p .reader)) (j .fuel) (drop end text) e, append-nil), j .past, j .fits)
+
+    pub at-other : Marked 46 text end None → Gives (said-in p text) (dotted-of (p .reader)) text at (Some (t, end))
+    at-other m = finish (no-mark (p .reader) text 46 end m)
+
+    pub at-dot : (behind : ℕ) → Marked 46 text end (Some behind) → p .reader (drop behind text) ≡ None → Gives (said-in p text) (dotted-of (p .reader)) text at (Some (t, end))
+    at-dot behind m n = finish (behind-mark (p .reader) text 46 end behind m ∙ n)
+
+-- what was read, as the text itself
+pub spelled-gives : {C : Type 0} (R : Reader C) (text : List ℕ) (at end : ℕ) (c : C) → R (drop at text) ≡ Some (c, drop end text) → at < end → end ≤ length text → spelled-of R (drop at text) ≡ Some (between at end text, drop end text)
+spelled-gives R text at end c e l h =
+    let n : length (drop at text) - length (drop end text) ≡ end - at = omega (arith, length-drop at text, length-drop end text) in
+    rw e (ap (λ k. Some (take k (drop at text), drop end text)) n)
