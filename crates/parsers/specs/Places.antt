@@ -66,3 +66,8 @@ Marked mark text at (Some r) = (at < length text) × (getD text at 0 ≡ mark) �
 -- one entry more, where there is room
 abbrev pub pushed : Table → Entry → List Entry
 pushed t e = cond (ltb (t .count) 64) (entries-of t ++ (e ∷ [])) (entries-of t)
+
+-- the element at an index, if there is one
+abbrev pub Taken : {X : Type 0} → List X → ℕ → Option X → Type 0
+Taken {X = X} xs i None = length xs ≤ i
+Taken {X = X} xs i (Some x) = (i < length xs) × ((d : X) → getD xs i d ≡ x)

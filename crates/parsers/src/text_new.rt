@@ -33,4 +33,10 @@ impl<'a> Text<'a> {
         }
         Text { bytes }
     }
+
+    pub fn bytes(&self) -> &'a [u8]
+        ensures { λ r. ⌜ now r ≡ bytes-of (now (self .entry)) ⌝ }
+    {
+        self.bytes
+    }
 }
