@@ -20,7 +20,7 @@ use Rattle.chunk.specs.Grammar.{Chunked, number, word, Released}
 use Rattle.chunk.specs.Reading.{chunk-of, release-of}
 
 module _ (q : ℕ → Bool) (apart : (b : ℕ) → asciiDigit b ≡ true → q b ≡ false) where
-  any-none : (w : List ℕ) → Each asciiDigit w → any q w ≡ false
+  pub any-none : (w : List ℕ) → Each asciiDigit w → any q w ≡ false
   any-none [] d = refl
   any-none (b ∷ w) d = or-from _ _ (apart b (d .0)) (any-none w (d .1))
 
@@ -28,8 +28,9 @@ module _ (q : ℕ → Bool) (apart : (b : ℕ) → asciiDigit b ≡ true → q b
   chunk-sound bs =
       let P : Option (Piece × List ℕ) → Type 0 = λ o. found o (Front (Chunked q) bs) in
       let s = span-sound (orDigit q) bs in
-      cond-both (any q (span (orDigit q) bs .0)) _ _ P (λ has. (_, word (s .0) has, s .1))
-      (λ _. follow-found (number-of bs) _ None _ P (number-reads .sound bs) (λ n rest h. (h .0, number (h .1), h .2)) tt)
+      cond-both (any q (span (orDigit q) bs .0)) (Some (span (orDigit q) bs)) None (λ o. P (follow o (λ w rest. Some (alphanum w, rest)) (follow (number-of bs) (λ n rest. Some (numeric n, rest)) None)))
+      (λ has. (_, word (s .0) has, s .1))
+      (λ _. follow-found (number-of bs) (λ n rest. Some (numeric n, rest)) None _ P (number-reads .sound bs) (λ n rest h. (h .0, number (h .1), h .2)) tt)
 
   pub chunk-each : {w : List ℕ} {c : Piece} → Chunked q w c → Each (orDigit q) w
   chunk-each {w} (number n) = all-weaker _ _ (λ b d. or-left _ _ d) w (number-each n)

@@ -1,1 +1,2 @@
 pub mod Chunking
+pub mod Words

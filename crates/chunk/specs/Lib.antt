@@ -1,3 +1,5 @@
 pub mod Grammar
 pub mod Reading
 pub mod Semver
+pub mod Said
+pub mod Tables

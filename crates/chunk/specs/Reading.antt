@@ -8,9 +8,13 @@ use Rattle.parsers.specs.Bytes.{letterOrHyphen, orDigit, any}
 use Rattle.parsers.specs.Reading.{Reader, follow, behind-of, dotted-of, span, number-of}
 use Rattle.parsers.specs.Piece.{Piece, numeric, alphanum}
 
--- the longest stretch of digits and q, as a text if a q is in it; otherwise the number there
+-- the longest stretch of digits and q, if a q is in it
+abbrev pub word-of : (ℕ → Bool) → Reader (List ℕ)
+word-of q bs = cond (any q (span (orDigit q) bs .0)) (Some (span (orDigit q) bs)) None
+
+-- such a stretch, as a text; otherwise the number there
 abbrev pub chunk-of : (ℕ → Bool) → Reader Piece
-chunk-of q bs = cond (any q (span (orDigit q) bs .0)) (Some (alphanum (span (orDigit q) bs .0), span (orDigit q) bs .1)) (follow (number-of bs) (λ n rest. Some (numeric n, rest)) None)
+chunk-of q bs = follow (word-of q bs) (λ w rest. Some (alphanum w, rest)) (follow (number-of bs) (λ n rest. Some (numeric n, rest)) None)
 
 abbrev pub release-of : Reader (List Piece)
 release-of = behind-of 45 (dotted-of (chunk-of letterOrHyphen))

@@ -1,1 +1,3 @@
-// Chunks and Releases.
+//! Chunks of labels, and Releases.
+pub mod chunk;
+pub mod release;

@@ -9,12 +9,12 @@ use lib.ListN.{length, take, drop, getD, length-drop, length-take, length-map, l
 use Rattle.std.specs.Holes.{between}
 use Rattle.std.specs.declared.option.Option.{Option}
 use Rattle.std.specs.declared.option.Option.the-variants.{Some, None}
-use Rattle.std.proofs.shelf.Lists.{drop-more, drop-all, map-push, length-push}
+use Rattle.std.proofs.shelf.Lists.{drop-more, drop-all, map-push, length-push, getD-map}
 use Rattle.std.proofs.shelf.Tests.{cond-true, cond-false, eq-eqb, ne-eqb, lt-ltb, cases-lt}
 use Rattle.parsers.specs.declared.table.Entry.{Entry}
 use Rattle.parsers.specs.declared.table.Table.{Table}
 use Rattle.parsers.specs.Reading.{Reader, follow, push, behind-of, many-of, dotted-of, spelled-of}
-use Rattle.parsers.specs.Places.{Part, entries-of, said-in, pushed, Gives, Marked}
+use Rattle.parsers.specs.Places.{Part, entries-of, said-in, pushed, Gives, Marked, Taken}
 
 -- parts read before what a reader goes on with
 abbrev glue : {C : Type 0} → List C → List C × List ℕ → List C × List ℕ
@@ -96,3 +96,7 @@ pub spelled-gives : {C : Type 0} (R : Reader C) (text : List ℕ) (at end : ℕ)
 spelled-gives R text at end c e l h =
     let n : length (drop at text) - length (drop end text) ≡ end - at = omega (arith, length-drop at text, length-drop end text) in
     rw e (ap (λ k. Some (take k (drop at text), drop end text)) n)
+
+-- an entry that a table hands out, as a part with its text
+pub handed : (p : Part) (text : List ℕ) (t : Table) (i : ℕ) (e : Entry) (s : p .Value) → Taken (entries-of t) i (Some e) → p .says text e ≡ getD (said-in p text t) i s
+handed p text t i e s h = sym (getD-map (p .says text) (entries-of t) i e s (h .0) ∙ ap (p .says text) (h .1 e))
