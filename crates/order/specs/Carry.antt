@@ -61,5 +61,17 @@ module _ {X : Type 0} {cmp : X → X → Ordering} (s : Strict cmp) where
   pub lex-strict : Strict (lex cmp)
   lex-strict = record { swapped = lex-swapped cmp (s .swapped); itself = lex-itself cmp (s .itself); carried = lex-carried }
 
+  -- one order, then another of the same values
+  pub then-strict : {next : X → X → Ordering} → Strict next → Strict (λ x y. thenBy (cmp x y) (next x y))
+  then-strict {next = next} t = record {
+    swapped = λ x y. (λ i. thenBy (s .swapped x y i) (t .swapped x y i)) ∙ then-back (cmp x y) (next x y);
+    itself = λ x i. thenBy (s .itself x i) (t .itself x i);
+    carried = λ x y z. step (cmp x y) (cmp y z) (cmp x z) (next x y) (next y z) (next x z) (s .carried x y z) (level x y z) (t .carried x y z);
+  }
+
+  -- the order of what f says
+  pub by-strict : {Y : Type 0} (f : Y → X) → Strict (λ x y. cmp (f x) (f y))
+  by-strict f = record { swapped = λ x y. s .swapped (f x) (f y); itself = λ x. s .itself (f x); carried = λ x y z. s .carried (f x) (f y) (f z) }
+
 pub lex-balanced : {X : Type 0} {cmp : X → X → Ordering} → Balanced cmp → Balanced (lex cmp)
 lex-balanced {cmp = cmp} b = record { swapped = lex-swapped cmp (b .swapped); itself = lex-itself cmp (b .itself) }

@@ -4,3 +4,4 @@ pub mod Precedence
 pub mod Reading
 pub mod Order
 pub mod Theorems
+pub mod Chain
