@@ -1,13 +1,9 @@
 -- What the code's Releases say. Assumes nothing.
-use mathlib.Core.Path.{_≡_, _∙_}
 use mathlib.Core.List.{List}
 use Prim.Native.Nat.{ℕ}
-use native.Mathlib.Omega.{arith}
-use lib.ListN.{length, length-map}
 use Rattle.parsers.specs.Bytes.{letterOrHyphen}
 use Rattle.parsers.specs.Piece.{Piece}
-use Rattle.parsers.specs.Places.{Part, piece-in, said-in, entries-of}
-use Rattle.parsers.proofs.Lists.{count-is}
+use Rattle.parsers.specs.Places.{Part, piece-in, said-in}
 use Rattle.chunk.specs.declared.release.Release.{Release}
 use Rattle.chunk.specs.declared.release.ReleaseIn.{ReleaseIn}
 use Rattle.chunk.specs.Reading.{chunk-of}
@@ -22,6 +18,3 @@ release-in text r = said-in release-part text (r .chunks)
 
 abbrev pub view-in : ReleaseIn → List Piece
 view-in x = release-in (x .text .now) (x .release .now)
-
-pub view-counted : (x : ReleaseIn) → length (view-in x) ≡ x .release .now .chunks .count
-view-counted x = length-map (entries-of (x .release .now .chunks)) (piece-in (x .text .now)) ∙ count-is (x .release .now .chunks)

@@ -1,16 +1,16 @@
 //! A Release: a hyphen and one or more release chunks joined by dots.
 ghost use mathlib.Core.Path.{_≡_};
 ghost use Prim.Native.Nat.{_<_};
-ghost use lib.ListN.{length, getD};
+ghost use lib.ListN.{length, getD, length-map};
 ghost use denote.Ref.{now};
 ghost use Rattle.order.specs.Lists.{lex};
 ghost use Rattle.order.specs.Orders.{Same};
-ghost use Rattle.parsers.specs.Places.{Gives};
+ghost use Rattle.parsers.specs.Places.{Gives, entries-of, piece-in};
 ghost use Rattle.parsers.specs.Texts.{bytes-of};
 ghost use Rattle.chunk.specs.Reading.{release-of};
 ghost use Rattle.chunk.specs.Semver.{semverOf};
 ghost use Rattle.chunk.specs.Said.{semverly};
-ghost use Rattle.chunk.specs.Tables.{release-part, release-in, view-in, view-counted};
+ghost use Rattle.chunk.specs.Tables.{release-part, release-in, view-in};
 use crate::chunk::BySemver;
 use crate::chunk::Chunk;
 use crate::chunk::SemverOrder;
@@ -71,9 +71,9 @@ pub impl<'a> Parts for ReleaseIn<'a> as ReleaseParts {
 
     ghost parts = { view-in };
 
-    ghost count = { λ x. x .release .now .chunks .count };
+    ghost count = { λ x. length (entries-of (x .release .now .chunks)) };
 
-    ghost counted = { view-counted };
+    ghost counted = { λ x. length-map (entries-of (x .release .now .chunks)) (piece-in (x .text .now)) };
 
     fn len(&self) -> usize {
         self.release.chunks.len()

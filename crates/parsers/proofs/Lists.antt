@@ -5,16 +5,17 @@ use mathlib.Core.Logic.{⊎-elim}
 use mathlib.Core.List.{List, [], _∷_, _++_, map, append-assoc, append-nil}
 use Prim.Native.Nat.{ℕ, zero, suc, _+_, _-_, _*_, _≤_, _<_}
 use native.Mathlib.Omega.{arith}
-use lib.ListN.{length, take, drop, getD, length-drop, length-take, length-map, length-append}
+use lib.Dec.{ltb}
+use lib.ListN.{length, take, drop, getD, set, length-drop, length-take, length-set, length-replicate}
 use Rattle.std.specs.Holes.{between}
 use Rattle.std.specs.declared.option.Option.{Option}
 use Rattle.std.specs.declared.option.Option.the-variants.{Some, None}
-use Rattle.std.proofs.shelf.Lists.{drop-more, drop-all, map-push, length-push, getD-map}
+use Rattle.std.proofs.shelf.Lists.{drop-more, drop-all, map-push, length-push, getD-map, take-more-set}
 use Rattle.std.proofs.shelf.Tests.{cond-true, cond-false, eq-eqb, ne-eqb, lt-ltb, cases-lt}
 use Rattle.parsers.specs.declared.table.Entry.{Entry}
 use Rattle.parsers.specs.declared.table.Table.{Table}
 use Rattle.parsers.specs.Reading.{Reader, follow, push, behind-of, many-of, dotted-of, spelled-of}
-use Rattle.parsers.specs.Places.{Part, entries-of, said-in, pushed, Gives, Marked, Taken}
+use Rattle.parsers.specs.Places.{Part, entries-of, said-in, table-of, pushed, Gives, Marked, Taken}
 
 -- parts read before what a reader goes on with
 abbrev glue : {C : Type 0} → List C → List C × List ℕ → List C × List ℕ
@@ -44,39 +45,54 @@ many-stop : {C : Type 0} (D : Reader C) (k : ℕ) (bs : List ℕ) → D bs ≡ N
 many-stop D zero bs e = refl
 many-stop D (suc k) bs e = rw e refl
 
-pub count-is : (t : Table) → length (entries-of t) ≡ t .count
-count-is t = length-take (t .count) (t .entries) ∙ omega (arith, t .few, t .wide)
+-- a table with room for 64 parts
+pub record Roomy (t : Table) : Type 0 where
+  pub few : t .count ≤ 64
+  pub wide : 64 ≤ length (t .entries)
+
+count-is : {t : Table} → Roomy t → length (entries-of t) ≡ t .count
+count-is {t} r = length-take (t .count) (t .entries) ∙ omega (arith, r .few, r .wide)
+
+pub one-more : {t : Table} (r : Roomy t) (e : Entry) → t .count < 64 → (entries-of (pushed t e) ≡ entries-of t ++ e ∷ []) × Roomy (pushed t e)
+one-more {t} r e h =
+    let is = cond-true (ltb (t .count) 64) (record { entries = set (t .entries) (t .count) e; count = t .count + 1 }) t (lt-ltb _ _ h) in
+    (ap entries-of is ∙ take-more-set (t .entries) (t .count) e (omega (arith, r .wide)), subst Roomy (sym is) (record { few = omega arith; wide = simp length-set (r .wide) }))
 
 -- the table holds the parts from a place on, up to end; a number bounds what is left
 pub record Joined (p : Part) (text : List ℕ) (at end : ℕ) (t : Table) : Type 0 where
   pub past : at < end
   pub fits : end ≤ length text
-  pub room : 2 * length (entries-of t) ≤ end - at + 1
+  pub roomy : Roomy t
+  pub room : 2 * t .count ≤ end - at + 1
   pub fuel : ℕ
   pub enough : length text - end ≤ fuel
   pub sofar : dotted-of (p .reader) (drop at text) ≡ Some (glue (said-in p text t) (many-of (behind-of 46 (p .reader)) fuel (drop end text)))
 
 module _ {p : Part} {text : List ℕ} where
-  pub start : (at end : ℕ) (e : Entry) (t : Table) → entries-of t ≡ e ∷ [] → Gives (p .says text) (p .reader) text at (Some (e, end)) → Joined p text at end t
-  start at end e t i g = record {
+  pub start : (at end : ℕ) (e : Entry) → Gives (p .says text) (p .reader) text at (Some (e, end)) → Joined p text at end (table-of e)
+  start at end e g = record {
     past = g .1;
     fits = g .2;
-    room = omega (arith, ap length i, g .1);
+    roomy = record { few = omega arith; wide = simp length-replicate (omega arith) };
+    room = omega (arith, g .1);
     fuel = length (drop end text);
     enough = omega (arith, length-drop end text);
-    sofar = rw (g .0, i) refl;
+    sofar = rw (g .0) refl;
   }
 
   module _ {at end : ℕ} {t : Table} (j : Joined p text at end t) where
-    pub more : length text ≤ 128 → (behind to : ℕ) (e : Entry) (u : Table) → entries-of u ≡ pushed t e → Marked 46 text end (Some behind) → Gives (p .says text) (p .reader) text behind (Some (e, to)) → Joined p text at to u
-    more short behind to e u i m g =
-        let few : t .count < 64 = omega (arith, count-is t, j .room, j .past, m .2, g .1, g .2) in
-        let is : entries-of u ≡ entries-of t ++ e ∷ [] = i ∙ cond-true _ _ _ (lt-ltb _ _ few) in
+    pub more : length text ≤ 128 → (behind to : ℕ) (e : Entry) → Marked 46 text end (Some behind) → Gives (p .says text) (p .reader) text behind (Some (e, to)) → Joined p text at to (pushed t e)
+    more short behind to e m g =
+        let few : t .count < 64 = omega (arith, j .room, j .past, m .2, g .1, g .2) in
+        let o = one-more (j .roomy) e few in
+        let is = o .0 in
+        let long : pushed t e .count ≡ t .count + 1 = sym (count-is (o .1)) ∙ ap length is ∙ length-push (entries-of t) e ∙ ap (λ n. n + 1) (count-is (j .roomy)) in
         let s = many-step (behind-of 46 (p .reader)) (j .fuel) (drop end text) (p .says text e) (drop to text) (omega (arith, j .enough, m .0)) (behind-mark (p .reader) text 46 end behind m ∙ g .0) in
         record {
           past = omega (arith, j .past, m .2, g .1);
           fits = g .2;
-          room = omega (arith, j .past, j .room, m .2, g .1, ap length is, length-push (entries-of t) e);
+          roomy = o .1;
+          room = omega (arith, j .past, j .room, m .2, g .1, long);
           fuel = s .0;
           enough = omega (arith, j .enough, s .1, m .2, g .1);
           sofar = j .sofar ∙ rw (s .2, ap (map (p .says text)) is ∙ map-push (p .says text) (entries-of t) e, append-assoc);

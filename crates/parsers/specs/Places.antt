@@ -1,10 +1,10 @@
 -- What places and tables say of a text, and what a reader at a place answers. Assumes nothing.
 use mathlib.Core.Path.{_≡_}
 use mathlib.Core.Bool.{Bool, true, false, cond}
-use mathlib.Core.List.{List, [], _∷_, _++_, map}
-use Prim.Native.Nat.{ℕ, suc, _≤_, _<_}
+use mathlib.Core.List.{List, [], map}
+use Prim.Native.Nat.{ℕ, suc, _+_, _≤_, _<_}
 use lib.Dec.{ltb}
-use lib.ListN.{take, drop, length, getD}
+use lib.ListN.{take, drop, length, getD, set, replicate}
 use Rattle.std.specs.Holes.{between}
 use Rattle.std.specs.declared.option.Option.{Option}
 use Rattle.std.specs.declared.option.Option.the-variants.{Some, None}
@@ -63,9 +63,13 @@ abbrev pub Marked : ℕ → List ℕ → ℕ → Option ℕ → Type 0
 Marked mark text at None = at < length text → getD text at 0 ≡ mark → ⊥
 Marked mark text at (Some r) = (at < length text) × (getD text at 0 ≡ mark) × (r ≡ suc at)
 
+-- a table of one entry
+abbrev pub table-of : Entry → Table
+table-of e = record { entries = replicate 64 e; count = 1 }
+
 -- one entry more, where there is room
-abbrev pub pushed : Table → Entry → List Entry
-pushed t e = cond (ltb (t .count) 64) (entries-of t ++ (e ∷ [])) (entries-of t)
+abbrev pub pushed : Table → Entry → Table
+pushed t e = cond (ltb (t .count) 64) (record { entries = set (t .entries) (t .count) e; count = t .count + 1 }) t
 
 -- the element at an index, if there is one
 abbrev pub Taken : {X : Type 0} → List X → ℕ → Option X → Type 0

@@ -1,6 +1,3 @@
-ghost use Prim.Native.Nat.{_≤_};
-ghost use lib.ListN.{length};
-
 /// Where a part begins and ends in its text.
 #[derive(Clone, Copy)]
 pub struct Span {
@@ -20,6 +17,4 @@ pub enum Entry {
 pub struct Table {
     pub(crate) entries: [Entry; 64],
     pub(crate) count: u8,
-    ghost few: { count ≤ 64 },
-    ghost wide: { 64 ≤ length entries },
 }

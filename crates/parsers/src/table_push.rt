@@ -1,6 +1,6 @@
 ghost use mathlib.Core.Path.{_≡_};
-ghost use mathlib.Core.List.{_∷_, []};
-ghost use Rattle.parsers.specs.Places.{entries-of, pushed, bytes-in, Taken};
+ghost use lib.ListN.{length};
+ghost use Rattle.parsers.specs.Places.{entries-of, table-of, pushed, bytes-in, Taken};
 use crate::table::Entry;
 use crate::table::Span;
 use crate::table::Table;
@@ -8,7 +8,7 @@ use crate::table::Table;
 impl Table {
     /// A table of one part.
     pub fn new(first: Entry) -> Table
-        ensures { λ r. ⌜ entries-of r ≡ first ∷ [] ⌝ }
+        ensures { λ r. ⌜ r ≡ table-of first ⌝ }
     {
         Table {
             entries: [first; 64],
@@ -18,7 +18,7 @@ impl Table {
 
     /// One part more at the end; a full table stays as it is.
     pub fn push(&mut self, part: Entry)
-        ensures { λ _. ⌜ entries-of (now (self .exit)) ≡ pushed (now (self .entry)) part ⌝ }
+        ensures { λ _. ⌜ now (self .exit) ≡ pushed (now (self .entry)) part ⌝ }
     {
         if self.count < 64 {
             self.entries[self.count as usize] = part;
@@ -28,17 +28,19 @@ impl Table {
 
     /// How many parts there are.
     pub fn len(&self) -> usize
-        ensures { λ r. ⌜ r ≡ now (self .entry) .count ⌝ }
+        ensures { λ r. ⌜ r ≡ length (entries-of (now (self .entry))) ⌝ }
     {
-        self.count as usize
+        let entries: &[Entry] = &self.entries;
+        (self.count as usize).min(entries.len())
     }
 
     /// The part at an index, if there is one.
     pub fn get(&self, i: usize) -> Option<Entry>
         ensures { λ r. ⌜ Taken (entries-of (now (self .entry))) i r ⌝ }
     {
-        if i < self.count as usize {
-            Some(self.entries[i])
+        let entries: &[Entry] = &self.entries;
+        if i < self.count as usize && i < entries.len() {
+            Some(entries[i])
         } else {
             None
         }
