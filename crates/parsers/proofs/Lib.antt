@@ -4,3 +4,4 @@ pub mod Stretches
 pub mod Numbers
 pub mod Lists
 pub mod Clips
+pub mod Answering
