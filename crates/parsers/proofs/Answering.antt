@@ -26,8 +26,8 @@ pub entered : (text : List ℕ) → _≡_ {A = Result (List ℕ) LabelFault} (Ok
 entered text = cond-both (eqb (length text) 0) _ _ (λ r. Ok text ≡ r → (1 ≤ length text) × (length text ≤ longest))
     (λ _ e. let z : _≡_ {A = ℕ} 0 1 = cc in absurd (omega arith))
     (λ n. cond-both (leb (length text) longest) _ _ (λ r. Ok text ≡ r → (1 ≤ length text) × (length text ≤ longest))
-      (λ l _. (let m = eqb-false (length text) 0 n in omega (arith, m), leb-true (length text) longest l))
-      (λ _ e. let z : _≡_ {A = ℕ} 0 1 = cc in absurd (omega arith)))
+    (λ l _. (let m = eqb-false (length text) 0 n in omega (arith, m), leb-true (length text) longest l))
+    (λ _ e. let z : _≡_ {A = ℕ} 0 1 = cc in absurd (omega arith)))
 
 pub clipped-whole : (text t : List ℕ) → _≡_ {A = Result (List ℕ) LabelFault} (Ok text) (entering text) → t ≡ take 128 text → t ≡ text
 clipped-whole text t e c = c ∙ take-all 128 text (entered text e .1)
@@ -78,10 +78,10 @@ module _ {C : Type 0} {R : Reader C} {P : Grammar C} (w : Whole R P) (text : Lis
     whole : (d : C) (rest : List ℕ) → 1 ≤ length text → R text ≡ Some (d, rest) → newly (parsed (Some (d, rest))) ≡ Ok c → P text c
     whole d rest l r = cond-both (eqb (length text - length rest) (length text)) _ _ (λ a. a ≡ Ok c → P text c)
         (λ n e.
-          let k = eqb-true _ _ n in
-          let z : rest ≡ [] = nil-from-length rest (omega arith) in
-          let same : d ≡ c = cc in
-          subst (P text) same (w .sound text d (r ∙ ap (λ l. Some (d, l)) z)))
+        let k = eqb-true _ _ n in
+        let z : rest ≡ [] = nil-from-length rest (omega arith) in
+        let same : d ≡ c = cc in
+        subst (P text) same (w .sound text d (r ∙ ap (λ l. Some (d, l)) z)))
         (λ _ e. let z : _≡_ {A = ℕ} 0 1 = cc in absurd (omega arith))
 
     by-reader : (o : Option (C × List ℕ)) → 1 ≤ length text → R text ≡ o → newly (parsed o) ≡ Ok c → P text c
@@ -92,8 +92,8 @@ module _ {C : Type 0} {R : Reader C} {P : Grammar C} (w : Whole R P) (text : Lis
     taken = cond-both (eqb (length text) 0) _ _ (λ a. newly (onward a (λ t. follow (R t) (λ c rest. Ok (c, length t - length rest)) (Err (NoForm 0)))) ≡ Ok c → P text c)
         (λ _ e. let z : _≡_ {A = ℕ} 0 1 = cc in absurd (omega arith))
         (λ n. cond-both (leb (length text) longest) _ _ (λ a. newly (onward a (λ t. follow (R t) (λ c rest. Ok (c, length t - length rest)) (Err (NoForm 0)))) ≡ Ok c → P text c)
-          (λ _ e. let m = eqb-false (length text) 0 n in by-reader (R text) (omega (arith, m)) refl e)
-          (λ _ e. let z : _≡_ {A = ℕ} 0 1 = cc in absurd (omega arith)))
+        (λ _ e. let m = eqb-false (length text) 0 n in by-reader (R text) (omega (arith, m)) refl e)
+        (λ _ e. let z : _≡_ {A = ℕ} 0 1 = cc in absurd (omega arith)))
 
   pub new-reads : NewReads P text (new-by R text)
   new-reads = record { taken = taken; takes = takes; one-reading = w .unique text }

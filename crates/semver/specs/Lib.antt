@@ -1,1 +1,3 @@
 pub mod Labels
+pub mod Ranges
+pub mod Views
