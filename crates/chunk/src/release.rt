@@ -1,11 +1,12 @@
 //! A Release: a hyphen and one or more release chunks joined by dots.
 ghost use mathlib.Core.Path.{_≡_};
 ghost use Prim.Native.Nat.{_<_};
-ghost use lib.ListN.{length, getD, length-map};
+ghost use lib.ListN.{length, getD};
 ghost use denote.Ref.{now};
 ghost use Rattle.order.specs.Lists.{lex};
 ghost use Rattle.order.specs.Orders.{Same};
-ghost use Rattle.parsers.specs.Places.{Gives, entries-of, piece-in};
+ghost use Rattle.parsers.specs.Places.{Gives, count-of};
+ghost use Rattle.parsers.proofs.Lists.{said-counted};
 ghost use Rattle.parsers.specs.Texts.{bytes-of};
 ghost use Rattle.chunk.specs.Reading.{release-of};
 ghost use Rattle.chunk.specs.Semver.{semverOf};
@@ -71,9 +72,9 @@ pub impl<'a> Parts for ReleaseIn<'a> as ReleaseParts {
 
     ghost parts = { view-in };
 
-    ghost count = { λ x. length (entries-of (x .release .now .chunks)) };
+    ghost count = { λ x. count-of (x .release .now .chunks) };
 
-    ghost counted = { λ x. length-map (entries-of (x .release .now .chunks)) (piece-in (x .text .now)) };
+    ghost counted = { λ x. said-counted release-part (x .text .now) (x .release .now .chunks) };
 
     fn len(&self) -> usize {
         self.release.chunks.len()

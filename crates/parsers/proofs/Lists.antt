@@ -6,7 +6,7 @@ use mathlib.Core.List.{List, [], _∷_, _++_, map, append-assoc, append-nil}
 use Prim.Native.Nat.{ℕ, zero, suc, _+_, _-_, _*_, _≤_, _<_}
 use native.Mathlib.Omega.{arith}
 use lib.Dec.{ltb}
-use lib.ListN.{length, take, drop, getD, set, length-drop, length-take, length-set, length-replicate}
+use lib.ListN.{length, take, drop, getD, set, length-drop, length-take, length-set, length-replicate, length-map}
 use Rattle.std.specs.Holes.{between}
 use Rattle.std.specs.declared.option.Option.{Option}
 use Rattle.std.specs.declared.option.Option.the-variants.{Some, None}
@@ -15,7 +15,7 @@ use Rattle.std.proofs.shelf.Tests.{cond-true, cond-false, eq-eqb, ne-eqb, lt-lt
 use Rattle.parsers.specs.declared.table.Entry.{Entry}
 use Rattle.parsers.specs.declared.table.Table.{Table}
 use Rattle.parsers.specs.Reading.{Reader, follow, push, behind-of, many-of, dotted-of, spelled-of}
-use Rattle.parsers.specs.Places.{Part, entries-of, said-in, table-of, pushed, Gives, Marked, Taken}
+use Rattle.parsers.specs.Places.{Part, count-of, entries-of, said-in, table-of, pushed, Gives, Marked, Taken}
 
 -- parts read before what a reader goes on with
 abbrev glue : {C : Type 0} → List C → List C × List ℕ → List C × List ℕ
@@ -44,6 +44,12 @@ many-step D (suc k) bs c rest h e = (k, omega arith, rw e refl)
 many-stop : {C : Type 0} (D : Reader C) (k : ℕ) (bs : List ℕ) → D bs ≡ None → many-of D k bs ≡ ([], bs)
 many-stop D zero bs e = refl
 many-stop D (suc k) bs e = rw e refl
+
+pub entries-counted : (t : Table) → length (entries-of t) ≡ count-of t
+entries-counted t = length-take (t .count) (t .entries)
+
+pub said-counted : (p : Part) (text : List ℕ) (t : Table) → length (said-in p text t) ≡ count-of t
+said-counted p text t = length-map (entries-of t) (p .says text) ∙ entries-counted t
 
 -- a table with room for 64 parts
 pub record Roomy (t : Table) : Type 0 where

@@ -2,7 +2,7 @@
 use mathlib.Core.Path.{_≡_}
 use mathlib.Core.Bool.{Bool, true, false, cond}
 use mathlib.Core.List.{List, [], map}
-use Prim.Native.Nat.{ℕ, suc, _+_, _≤_, _<_}
+use Prim.Native.Nat.{ℕ, suc, _+_, _≤_, _<_, min}
 use lib.Dec.{ltb}
 use lib.ListN.{take, drop, length, getD, set, replicate}
 use Rattle.std.specs.Holes.{between}
@@ -28,6 +28,10 @@ piece-in text (Alphanum s) = alphanum (bytes-in text s)
 abbrev pub word-in : List ℕ → Entry → List ℕ
 word-in text (Numeric n) = []
 word-in text (Alphanum s) = bytes-in text s
+
+-- how many entries a table has: as many as it says, but no more than it has room for
+abbrev pub count-of : Table → ℕ
+count-of t = min (t .count) (length (t .entries))
 
 abbrev pub entries-of : Table → List Entry
 entries-of t = take (t .count) (t .entries)

@@ -1,6 +1,5 @@
 ghost use mathlib.Core.Path.{_≡_};
-ghost use lib.ListN.{length};
-ghost use Rattle.parsers.specs.Places.{entries-of, table-of, pushed, bytes-in, Taken};
+ghost use Rattle.parsers.specs.Places.{count-of, entries-of, table-of, pushed, bytes-in, Taken};
 use crate::table::Entry;
 use crate::table::Span;
 use crate::table::Table;
@@ -28,7 +27,7 @@ impl Table {
 
     /// How many parts there are.
     pub fn len(&self) -> usize
-        ensures { λ r. ⌜ r ≡ length (entries-of (now (self .entry))) ⌝ }
+        ensures { λ r. ⌜ r ≡ count-of (now (self .entry)) ⌝ }
     {
         let entries: &[Entry] = &self.entries;
         (self.count as usize).min(entries.len())
