@@ -1,0 +1,1 @@
+//! Labels of any form.
