@@ -9,9 +9,12 @@ type Text = Vec<u8>;
 
 const FORM: Form = Form::Semver;
 
+/// The longest text of `probe`'s protocol.
+const LONGEST: usize = 70_000;
+
 fn length(r: &mut Random) -> usize {
     match r.below(1500) {
-        0 => r.pick(&[1000, 65_535, 65_536, 70_000]),
+        0 => r.pick(&[1000, 65_535, 65_536, LONGEST]),
         1..=200 => r.below(140),
         201..=250 => 129 + r.below(200),
         _ => 126 + r.below(5),
@@ -33,6 +36,7 @@ fn text(r: &mut Random) -> Text {
             damage(&mut t, r);
         }
     }
+    t.truncate(LONGEST);
     t
 }
 

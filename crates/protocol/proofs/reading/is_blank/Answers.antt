@@ -1,0 +1,13 @@
+use mathlib.Core.Path.{sym}
+use Rattle.std.proofs.shelf.Tests.{eq-eqb, ne-eqb}
+use Rattle.lines.proofs.Everys.{pass, wrong, all}
+use Rattle.protocol.proofs.reading.is_blank.Needs as need
+
+pub returns-then-b-ne32 : need.returns-then-b-ne32
+returns-then-b-ne32 c = wrong _ _ _ (c .loop-b .inv) (c .loop-b-test .taken) (sym (ne-eqb _ 32 (c .if-b-ne32 .taken)))
+
+pub loop-b-again : need.loop-b-again
+loop-b-again c = pass _ _ _ (c .loop-b .inv) (c .loop-b-test .taken) (sym (eq-eqb _ 32 (c .if-b-ne32 .left)))
+
+pub returns : need.returns
+returns c = all _ _ _ (c .loop-b .inv) (c .loop-b-test .left)
