@@ -10,7 +10,7 @@ use lib.ListN.{length, take, drop, getD, set, length-drop, length-take, length-s
 use Rattle.std.specs.Holes.{between}
 use Rattle.std.specs.declared.option.Option.{Option}
 use Rattle.std.specs.declared.option.Option.the-variants.{Some, None}
-use Rattle.std.proofs.shelf.Lists.{drop-more, drop-all, map-push, length-push, getD-map, take-more-set}
+use Rattle.std.proofs.shelf.Lists.{drop-more, drop-all, map-push, length-push, getD-map, getD-take, take-all, take-more, take-take, take-more-set, nil-from-length}
 use Rattle.std.proofs.shelf.Tests.{cond-true, cond-false, eq-eqb, ne-eqb, lt-ltb, cases-lt}
 use Rattle.parsers.specs.declared.table.Entry.{Entry}
 use Rattle.parsers.specs.declared.table.Table.{Table}
@@ -63,6 +63,16 @@ pub one-more : {t : Table} (r : Roomy t) (e : Entry) → t .count < 64 → (entr
 one-more {t} r e h =
     let is = cond-true (ltb (t .count) 64) (record { entries = set (t .entries) (t .count) e; count = t .count + 1 }) t (lt-ltb _ _ h) in
     (ap entries-of is ∙ take-more-set (t .entries) (t .count) e (omega (arith, r .wide)), subst Roomy (sym is) (record { few = omega arith; wide = simp length-set (r .wide) }))
+
+-- the last entry taken off a table of n entries
+module _ (t : Table) (n : ℕ) (is : n ≡ count-of t) where
+  pub none-left : n ≡ 0 → entries-of t ≡ []
+  none-left z = nil-from-length _ (entries-counted t ∙ sym is ∙ z)
+
+  pub one-less : (d : Entry) → 0 < n → entries-of t ≡ take (n - 1) (t .entries) ++ (getD (t .entries) (n - 1) d ∷ [])
+  one-less d l =
+      let all : take (n - 1 + 1) (entries-of t) ≡ entries-of t = take-all _ (entries-of t) (omega (arith, entries-counted t)) in
+      sym all ∙ take-more (entries-of t) (n - 1) d (omega (arith, entries-counted t)) ∙ rw (take-take (n - 1) (t .count) (t .entries) (omega arith), getD-take (t .count) (t .entries) (n - 1) d (omega arith)) refl
 
 -- the table holds the parts from a place on, up to end; a number bounds what is left
 pub record Joined (p : Part) (text : List ℕ) (at end : ℕ) (t : Table) : Type 0 where
