@@ -8,6 +8,7 @@ use native.Mathlib.Omega.{arith}
 use lib.Dec.{ltb}
 use lib.ListN.{length, take, drop, getD, set, length-drop, length-take, length-set, length-replicate, length-map}
 use Rattle.std.specs.Holes.{between}
+use Rattle.std.specs.Options.{mapped}
 use Rattle.std.specs.declared.option.Option.{Option}
 use Rattle.std.specs.declared.option.Option.the-variants.{Some, None}
 use Rattle.std.proofs.shelf.Lists.{drop-more, drop-all, map-push, length-push, getD-map, getD-take, take-all, take-more, take-take, take-more-set, nil-from-length}
@@ -132,3 +133,7 @@ spelled-gives R text at end c e l h =
 -- an entry that a table hands out, as a part with its text
 pub handed : (p : Part) (text : List ℕ) (t : Table) (i : ℕ) (e : Entry) (s : p .Value) → Taken (entries-of t) i (Some e) → p .says text e ≡ getD (said-in p text t) i s
 handed p text t i e s h = sym (getD-map (p .says text) (entries-of t) i e s (h .0) ∙ ap (p .says text) (h .1 e))
+
+pub handed-out : (p : Part) (text : List ℕ) (t : Table) (i : ℕ) (r : Option Entry) → Taken (entries-of t) i r → Taken (said-in p text t) i (mapped (p .says text) r)
+handed-out p text t i None h = omega (arith, said-counted p text t, entries-counted t)
+handed-out p text t i (Some e) h = (omega (arith, said-counted p text t, entries-counted t, h .0), λ d. sym (handed p text t i e d h))
