@@ -16,6 +16,7 @@ use Rattle.std.proofs.shelf.Tests.{cond-true, cond-false, eq-eqb, ne-eqb, lt-lt
 use Rattle.parsers.specs.declared.table.Entry.{Entry}
 use Rattle.parsers.specs.declared.table.Table.{Table}
 use Rattle.parsers.specs.Reading.{Reader, follow, push, behind-of, many-of, dotted-of, spelled-of}
+use Rattle.parsers.proofs.Joining.{some-same}
 use Rattle.parsers.specs.Places.{Part, count-of, entries-of, said-in, table-of, pushed, Gives, Marked, Taken}
 
 -- parts read before what a reader goes on with
@@ -45,6 +46,14 @@ many-step D (suc k) bs c rest h e = (k, omega arith, rw e refl)
 many-stop : {C : Type 0} (D : Reader C) (k : ℕ) (bs : List ℕ) → D bs ≡ None → many-of D k bs ≡ ([], bs)
 many-stop D zero bs e = refl
 many-stop D (suc k) bs e = rw e refl
+
+-- there is a first part
+pub not-empty : {C : Type 0} (R : Reader C) (bs rest : List ℕ) → dotted-of R bs ≡ Some ([], rest) → ⊥
+not-empty {C} R bs rest = go (R bs)
+  where
+    go : (o : Option (C × List ℕ)) → follow o (λ c rest. Some (push c (many-of (behind-of 46 R) (length rest) rest))) None ≡ Some ([], rest) → ⊥
+    go None e = let z : _≡_ {A = ℕ} 0 1 = cc in omega arith
+    go (Some r) e = let h = ap (λ r. r .0) (some-same e) in let z : _≡_ {A = ℕ} 0 1 = cc in omega arith
 
 pub entries-counted : (t : Table) → length (entries-of t) ≡ count-of t
 entries-counted t = length-take (t .count) (t .entries)

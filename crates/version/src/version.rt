@@ -3,11 +3,11 @@ ghost use mathlib.Core.List.{List};
 ghost use mathlib.Core.Path.{_≡_};
 ghost use Prim.Native.Nat.{ℕ};
 ghost use Rattle.parsers.specs.Answers.{told, parsed-by, new-by, NewReads};
-ghost use Rattle.parsers.specs.Places.{Gives, PerhapsGives};
+ghost use Rattle.parsers.specs.Places.{Gives, PerhapsGives, piece-in};
 ghost use Rattle.parsers.specs.Texts.{bytes-of};
 ghost use Rattle.version.specs.Grammar.{General};
 ghost use Rattle.version.specs.Labels.{parts-in, read-in};
-ghost use Rattle.version.specs.Numbers.{nth-of};
+ghost use Rattle.version.specs.Numbers.{single, nth-of};
 ghost use Rattle.version.specs.Reading.{epoch-of, general-of};
 use crate::last::Last;
 use chunk::chunks::Chunks;
@@ -53,6 +53,16 @@ fn perhaps_epoch(text: Text<'_>, at: usize) -> (Option<u32>, usize)
     match epoch(text, at) {
         Some((number, end)) => (Some(number), end),
         None => (None, at),
+    }
+}
+
+/// The number of a chunk that is Numeric.
+fn single_digit(chunk: Entry) -> Option<u32>
+    ensures { λ r. ⌜ ((text : List ℕ) → r ≡ single (piece-in text chunk)) ⌝ }
+{
+    match chunk {
+        Entry::Numeric(number) => Some(number),
+        Entry::Alphanum(_) => None,
     }
 }
 
@@ -119,8 +129,8 @@ impl Version {
             return self.last.first();
         }
         match self.chunks.chunks.get(n) {
-            Some(Entry::Numeric(number)) => Some(number),
-            _ => None,
+            Some(chunk) => single_digit(chunk),
+            None => None,
         }
     }
 }
