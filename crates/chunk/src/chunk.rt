@@ -4,7 +4,6 @@ ghost use Rattle.order.specs.Laws.{Strict};
 ghost use Rattle.order.specs.Orders.{Same};
 ghost use Rattle.parsers.specs.Places.{Gives, bytes-in, piece-in};
 ghost use Rattle.parsers.specs.Texts.{bytes-of};
-ghost use Rattle.std.specs.Text.{asciiLetter};
 ghost use Rattle.parsers.specs.Bytes.{letterOrHyphen};
 ghost use Rattle.chunk.specs.Reading.{word-of, chunk-of};
 ghost use Rattle.chunk.specs.Semver.{semverOf};
@@ -14,7 +13,6 @@ use order::StrictOrder;
 use order::compare_texts;
 use parsers::Digits;
 use parsers::DigitsClass;
-use parsers::alphanums;
 use parsers::hyphenated_alphanums;
 use parsers::stretch_end;
 use parsers::table::Entry;
@@ -50,33 +48,6 @@ pub fn parse(text: Text<'_>, at: usize) -> Option<(Entry, usize)>
     ensures { λ r. ⌜ Gives (piece-in (bytes-of (text .entry))) (chunk-of letterOrHyphen) (bytes-of (text .entry)) at r ⌝ }
 {
     if let Some((span, end)) = alphanum(text, at) {
-        return Some((Entry::Alphanum(span), end));
-    }
-    let Some((number, end)) = unsigned(text, at) else {
-        return None;
-    };
-    Some((Entry::Numeric(number), end))
-}
-
-/// The run at a place, if it holds a letter, and the place behind it.
-fn alphanum_without_hyphens(text: Text<'_>, at: usize) -> Option<(Span, usize)>
-    ensures { λ r. ⌜ Gives (bytes-in (bytes-of (text .entry))) (word-of asciiLetter) (bytes-of (text .entry)) at r ⌝ }
-{
-    let Some((span, end)) = alphanums(text, at) else {
-        return None;
-    };
-    if stretch_end::<Digits>(text.bytes(), at) < end {
-        Some((span, end))
-    } else {
-        None
-    }
-}
-
-/// The plain chunk at a place, and the place behind it: the run there, if it holds a letter; otherwise the number there.
-pub fn parse_without_hyphens(text: Text<'_>, at: usize) -> Option<(Entry, usize)>
-    ensures { λ r. ⌜ Gives (piece-in (bytes-of (text .entry))) (chunk-of asciiLetter) (bytes-of (text .entry)) at r ⌝ }
-{
-    if let Some((span, end)) = alphanum_without_hyphens(text, at) {
         return Some((Entry::Alphanum(span), end));
     }
     let Some((number, end)) = unsigned(text, at) else {

@@ -5,6 +5,7 @@ use Prim.Native.Nat.{ℕ, zero, suc, _≤_, _<_}
 use native.Mathlib.Nat.{not-suc-le-zero, le-of-suc-le-suc}
 use lib.ListN.{length}
 use Rattle.std.specs.Options.{mapped}
+use Rattle.std.specs.Text.{asciiLetter}
 use Rattle.std.specs.declared.option.Option.{Option}
 use Rattle.std.specs.declared.option.Option.the-variants.{Some, None}
 use Rattle.std.proofs.shelf.Lists.{map-push}
@@ -13,8 +14,9 @@ use Rattle.parsers.specs.declared.table.Entry.{Entry}
 use Rattle.parsers.specs.Piece as piece
 use Rattle.parsers.specs.Piece.{Piece}
 use Rattle.parsers.specs.Places.{piece-in, count-of, entries-of, Taken, Popped}
-use Rattle.parsers.proofs.Lists.{said-counted, handed-out}
+use Rattle.parsers.proofs.Lists.{not-empty, said-counted, handed-out}
 use Rattle.chunk.specs.declared.chunks.Chunks.{Chunks}
+use Rattle.chunk.specs.Reading.{chunk-of, chunks-of}
 use Rattle.chunk.specs.Tables.{plain-part, chunks-in}
 use Rattle.version.specs.declared.last.Last.{Last}
 use Rattle.version.specs.declared.version.Version.{Version}
@@ -26,6 +28,10 @@ use Rattle.version.proofs.Generals.{front-push, final-push}
 pub mapped-same : (o : Option ℕ) → mapped (λ n. n) o ≡ o
 mapped-same None = refl
 mapped-same (Some n) = refl
+
+-- there is a last chunk
+pub no-chunks : (text bs rest : List ℕ) (all : Chunks) → chunks-of bs ≡ Some (chunks-in text all, rest) → entries-of (all .chunks) ≡ [] → ⊥
+no-chunks text bs rest all g e = not-empty (chunk-of asciiLetter) bs rest (g ∙ ap (λ l. Some (map (piece-in text) l, rest)) e)
 
 -- the last chunk taken off, and made the Last
 module _ (text : List ℕ) (all left : Chunks) (chunk : Entry) (p : Popped (entries-of (all .chunks)) (entries-of (left .chunks)) (Some chunk)) where

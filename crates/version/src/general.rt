@@ -27,10 +27,9 @@ impl<'a> VersionIn<'a> {
     pub fn chunks(&self) -> ChunksIn<'a>
         ensures { λ r. ⌜ listed-in r ≡ parts-of (now (self .entry)) .chunks ⌝ }
     {
-        ChunksIn {
-            text: self.text,
-            chunks: &self.version.chunks,
-        }
+        let text = self.text;
+        let chunks = &self.version.chunks;
+        ChunksIn { text, chunks }
     }
 
     /// The Last.

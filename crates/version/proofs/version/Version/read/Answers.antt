@@ -1,24 +1,17 @@
-use mathlib.Core.Path.{_≡_, refl, ap, subst, _∙_}
-use mathlib.Core.List.{map}
+use mathlib.Core.Path.{_≡_, refl, subst}
 use native.Mathlib.Omega.{arith}
 use lib.ListN.{drop}
-use Rattle.std.specs.Text.{asciiLetter}
-use Rattle.std.specs.declared.option.Option.the-variants.{Some}
 use Rattle.parsers.specs.Places.{piece-in}
 use Rattle.parsers.specs.Texts.{bytes-of}
-use Rattle.parsers.proofs.Lists.{not-empty}
-use Rattle.chunk.specs.Reading.{chunk-of}
 use Rattle.version.specs.Labels.{last-in}
 use Rattle.version.specs.Reading.{last-of}
-use Rattle.version.proofs.Places.{mapped-same, before-last, made-last}
+use Rattle.version.proofs.Places.{mapped-same, no-chunks, before-last, made-last}
 use Rattle.version.proofs.version.Version.read.Needs as need
 
 pub returns-in-rest-pop : need.returns-in-rest-pop
 returns-in-rest-pop c =
     let text = bytes-of (c .args .text) in
-    let g = c .in-Some .ensures tt in
-    let e = c .in-rest-pop .ensures tt in
-    absurd (not-empty (chunk-of asciiLetter) (drop (c .perhaps-epoch-epoch .result .1) text) (drop (c .in-Some .at) text) (g .0 ∙ ap (λ l. Some (map (piece-in text) l, drop (c .in-Some .at) text)) (e .0)))
+    absurd (no-chunks text (drop (c .perhaps-epoch-epoch .result .1) text) (drop (c .in-Some .at) text) (c .in-Some .chunks) (c .in-Some .ensures tt .0) (c .in-rest-pop .ensures tt .0))
 
 pub returns : need.returns
 returns c =

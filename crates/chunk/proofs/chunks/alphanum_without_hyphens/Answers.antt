@@ -4,7 +4,7 @@ use Rattle.std.specs.Text.{asciiDigit, asciiLetter}
 use Rattle.std.proofs.shelf.Ways.{tells}
 use Rattle.parsers.specs.Places.{EndOf}
 use Rattle.chunk.proofs.Words.{as-word, digits-only}
-use Rattle.chunk.proofs.chunk.alphanum_without_hyphens.Needs as need
+use Rattle.chunk.proofs.chunks.alphanum_without_hyphens.Needs as need
 
 pub returns-then-stretch-end-end : need.returns-then-stretch-end-end
 returns-then-stretch-end-end c =
