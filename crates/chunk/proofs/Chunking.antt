@@ -4,7 +4,7 @@ use mathlib.Core.Bool.{Bool, true, false, cond}
 use mathlib.Core.List.{List, [], _∷_, _++_}
 use Prim.Native.Nat.{ℕ}
 use native.Mathlib.Omega.{arith}
-use Rattle.std.specs.Text.{asciiDigit}
+use Rattle.std.specs.Text.{asciiDigit, asciiLetter}
 use Rattle.std.specs.Slices.{found}
 use Rattle.std.specs.declared.option.Option.{Option}
 use Rattle.std.specs.declared.option.Option.the-variants.{Some, None}
@@ -16,8 +16,8 @@ use Rattle.parsers.specs.Reading.{follow, span, number-of}
 use Rattle.parsers.proofs.Joining.{Stops, or, stops-weaker, follow-found, Front, Reads, behind-reads, dotted-reads}
 use Rattle.parsers.proofs.Parts.{span-sound, span-complete, number-each, number-reads}
 use Rattle.parsers.specs.Piece.{Piece, numeric, alphanum}
-use Rattle.chunk.specs.Grammar.{Chunked, number, word, Released}
-use Rattle.chunk.specs.Reading.{chunk-of, release-of}
+use Rattle.chunk.specs.Grammar.{Chunked, number, word, Chunks, Released}
+use Rattle.chunk.specs.Reading.{chunk-of, chunks-of, release-of}
 
 module _ (q : ℕ → Bool) (apart : (b : ℕ) → asciiDigit b ≡ true → q b ≡ false) where
   pub any-none : (w : List ℕ) → Each asciiDigit w → any q w ≡ false
@@ -43,6 +43,9 @@ module _ (q : ℕ → Bool) (apart : (b : ℕ) → asciiDigit b ≡ true → q b
 
   pub chunk-reads : Reads (chunk-of q) (Chunked q) (orDigit q)
   chunk-reads = record { sound = chunk-sound; complete = chunk-complete }
+
+pub chunks-reads : Reads chunks-of Chunks (or 46 (orDigit asciiLetter))
+chunks-reads = dotted-reads (chunk-reads asciiLetter (λ b d. grind (arith, tells))) refl
 
 pub release-reads : Reads release-of Released (or 46 (orDigit letterOrHyphen))
 release-reads = behind-reads (dotted-reads (chunk-reads letterOrHyphen (λ b d. grind (arith, tells))) refl) 45

@@ -1,7 +1,8 @@
--- The meaning: readers of chunks and Releases. Assumes nothing.
+-- The meaning: readers of chunks, lists of chunks and Releases. Assumes nothing.
 use mathlib.Core.Bool.{Bool, cond}
 use mathlib.Core.List.{List}
 use Prim.Native.Nat.{ℕ}
+use Rattle.std.specs.Text.{asciiLetter}
 use Rattle.std.specs.declared.option.Option.{Option}
 use Rattle.std.specs.declared.option.Option.the-variants.{Some, None}
 use Rattle.parsers.specs.Bytes.{letterOrHyphen, orDigit, any}
@@ -18,3 +19,7 @@ chunk-of q bs = follow (word-of q bs) (λ w rest. Some (alphanum w, rest)) (foll
 
 abbrev pub release-of : Reader (List Piece)
 release-of = behind-of 45 (dotted-of (chunk-of letterOrHyphen))
+
+-- one or more plain chunks joined by dots
+abbrev pub chunks-of : Reader (List Piece)
+chunks-of = dotted-of (chunk-of asciiLetter)

@@ -1,3 +1,4 @@
-//! Chunks of labels, and Releases.
+//! Chunks of labels, the chunks of a General, and Releases.
 pub mod chunk;
+pub mod chunks;
 pub mod release;

@@ -8,13 +8,15 @@ use native.Mathlib.Omega.{arith}
 use lib.Dec.{ltb}
 use lib.ListN.{length, take, drop, getD, set, length-drop, length-take, length-set, length-replicate, length-map}
 use Rattle.std.specs.Holes.{between}
+use Rattle.std.specs.Options.{mapped}
 use Rattle.std.specs.declared.option.Option.{Option}
 use Rattle.std.specs.declared.option.Option.the-variants.{Some, None}
-use Rattle.std.proofs.shelf.Lists.{drop-more, drop-all, map-push, length-push, getD-map, take-more-set}
+use Rattle.std.proofs.shelf.Lists.{drop-more, drop-all, map-push, length-push, getD-map, getD-take, take-all, take-more, take-take, take-more-set, nil-from-length}
 use Rattle.std.proofs.shelf.Tests.{cond-true, cond-false, eq-eqb, ne-eqb, lt-ltb, cases-lt}
 use Rattle.parsers.specs.declared.table.Entry.{Entry}
 use Rattle.parsers.specs.declared.table.Table.{Table}
 use Rattle.parsers.specs.Reading.{Reader, follow, push, behind-of, many-of, dotted-of, spelled-of}
+use Rattle.parsers.proofs.Joining.{some-same}
 use Rattle.parsers.specs.Places.{Part, count-of, entries-of, said-in, table-of, pushed, Gives, Marked, Taken}
 
 -- parts read before what a reader goes on with
@@ -45,6 +47,14 @@ many-stop : {C : Type 0} (D : Reader C) (k : ℕ) (bs : List ℕ) → D bs ≡ N
 many-stop D zero bs e = refl
 many-stop D (suc k) bs e = rw e refl
 
+-- there is a first part
+pub not-empty : {C : Type 0} (R : Reader C) (bs rest : List ℕ) → dotted-of R bs ≡ Some ([], rest) → ⊥
+not-empty {C} R bs rest = go (R bs)
+  where
+    go : (o : Option (C × List ℕ)) → follow o (λ c rest. Some (push c (many-of (behind-of 46 R) (length rest) rest))) None ≡ Some ([], rest) → ⊥
+    go None e = let z : _≡_ {A = ℕ} 0 1 = cc in omega arith
+    go (Some r) e = let h = ap (λ r. r .0) (some-same e) in let z : _≡_ {A = ℕ} 0 1 = cc in omega arith
+
 pub entries-counted : (t : Table) → length (entries-of t) ≡ count-of t
 entries-counted t = length-take (t .count) (t .entries)
 
@@ -63,6 +73,16 @@ pub one-more : {t : Table} (r : Roomy t) (e : Entry) → t .count < 64 → (entr
 one-more {t} r e h =
     let is = cond-true (ltb (t .count) 64) (record { entries = set (t .entries) (t .count) e; count = t .count + 1 }) t (lt-ltb _ _ h) in
     (ap entries-of is ∙ take-more-set (t .entries) (t .count) e (omega (arith, r .wide)), subst Roomy (sym is) (record { few = omega arith; wide = simp length-set (r .wide) }))
+
+-- the last entry taken off a table of n entries
+module _ (t : Table) (n : ℕ) (is : n ≡ count-of t) where
+  pub none-left : n ≡ 0 → entries-of t ≡ []
+  none-left z = nil-from-length _ (entries-counted t ∙ sym is ∙ z)
+
+  pub one-less : (d : Entry) → 0 < n → entries-of t ≡ take (n - 1) (t .entries) ++ (getD (t .entries) (n - 1) d ∷ [])
+  one-less d l =
+      let all : take (n - 1 + 1) (entries-of t) ≡ entries-of t = take-all _ (entries-of t) (omega (arith, entries-counted t)) in
+      sym all ∙ take-more (entries-of t) (n - 1) d (omega (arith, entries-counted t)) ∙ rw (take-take (n - 1) (t .count) (t .entries) (omega arith), getD-take (t .count) (t .entries) (n - 1) d (omega arith)) refl
 
 -- the table holds the parts from a place on, up to end; a number bounds what is left
 pub record Joined (p : Part) (text : List ℕ) (at end : ℕ) (t : Table) : Type 0 where
@@ -122,3 +142,7 @@ spelled-gives R text at end c e l h =
 -- an entry that a table hands out, as a part with its text
 pub handed : (p : Part) (text : List ℕ) (t : Table) (i : ℕ) (e : Entry) (s : p .Value) → Taken (entries-of t) i (Some e) → p .says text e ≡ getD (said-in p text t) i s
 handed p text t i e s h = sym (getD-map (p .says text) (entries-of t) i e s (h .0) ∙ ap (p .says text) (h .1 e))
+
+pub handed-out : (p : Part) (text : List ℕ) (t : Table) (i : ℕ) (r : Option Entry) → Taken (entries-of t) i r → Taken (said-in p text t) i (mapped (p .says text) r)
+handed-out p text t i None h = omega (arith, said-counted p text t, entries-counted t)
+handed-out p text t i (Some e) h = (omega (arith, said-counted p text t, entries-counted t, h .0), λ d. sym (handed p text t i e d h))

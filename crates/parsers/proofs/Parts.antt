@@ -1,4 +1,4 @@
--- Stretches, numbers and chunks.
+-- Stretches, numbers and metadata.
 use mathlib.Core.Path.{_≡_, refl, sym, ap, subst, _∙_}
 use mathlib.Core.Bool.{Bool, true, false, cond, _||_}
 use mathlib.Core.List.{List, [], _∷_, _++_, head-eq-of-cons-eq}
@@ -12,10 +12,10 @@ use Rattle.std.specs.declared.option.Option.the-variants.{Some, None}
 use Rattle.std.proofs.shelf.Elements.{all-weaker}
 use Rattle.std.proofs.shelf.Tests.{cond-true, cond-false, cond-both, eqb-true, eqb-false, ne-eqb, le-leb, leb-true, or-parts, or-left, or-from}
 use Rattle.std.proofs.shelf.Ways.{tells}
-use Rattle.parsers.specs.Bytes.{Each}
-use Rattle.parsers.specs.Grammar.{limit, worth, Number, nought, digits, Stretch, stretch}
-use Rattle.parsers.specs.Reading.{Reader, follow, push, span, some, stretch-of, counted, number-of}
-use Rattle.parsers.proofs.Joining.{Stops, stops-weaker, follow-found, Front, Reads}
+use Rattle.parsers.specs.Bytes.{letterOrHyphen, orDigit, Each}
+use Rattle.parsers.specs.Grammar.{limit, worth, Number, nought, digits, Stretch, stretch, Metadata}
+use Rattle.parsers.specs.Reading.{Reader, follow, push, span, some, stretch-of, counted, number-of, meta-of}
+use Rattle.parsers.proofs.Joining.{Stops, or, stops-weaker, follow-found, Front, Reads, behind-reads, dotted-reads, spelled-reads}
 
 module _ (p : ℕ → Bool) where
   pub span-sound : (bs : List ℕ) → Each p (span p bs .0) × (bs ≡ span p bs .0 ++ span p bs .1)
@@ -69,3 +69,6 @@ number-complete rest (digits {b} {w} f e l) s =
 
 pub number-reads : Reads number-of Number asciiDigit
 number-reads = record { sound = number-sound; complete = number-complete }
+
+pub meta-reads : Reads meta-of Metadata (or 46 (orDigit letterOrHyphen))
+meta-reads = behind-reads (spelled-reads (dotted-reads (stretch-reads (orDigit letterOrHyphen)) refl)) 43

@@ -6,7 +6,7 @@ use Prim.Native.Nat.{ℕ, _+_, _-_, _*_, _≤_, _<_}
 use Rattle.std.specs.Text.{asciiDigit}
 use Rattle.std.specs.declared.option.Option.{Option}
 use Rattle.std.specs.declared.option.Option.the-variants.{Some, None}
-use Rattle.parsers.specs.Bytes.{Each}
+use Rattle.parsers.specs.Bytes.{letterOrHyphen, orDigit, Each}
 
 -- A grammar says of a text and a part that the text writes the part.
 abbrev pub Grammar : Type 0 → Type 1
@@ -51,3 +51,7 @@ worth n (b ∷ bs) = worth (n * 10 + (b - 48)) bs
 pub data Number : List ℕ → ℕ → Type 0 where
   nought : Number (48 ∷ []) 0
   digits : {b : ℕ} {w : List ℕ} → 48 < b → Each asciiDigit (b ∷ w) → worth 0 (b ∷ w) ≤ limit → Number (b ∷ w) (worth 0 (b ∷ w))
+
+-- metadata: a plus sign and stretches of letters, digits and hyphens joined by dots, as the text behind the plus sign
+abbrev pub Metadata : List ℕ → List ℕ → Type 0
+Metadata = Behind 43 (Spelled (Dotted (Stretch (orDigit letterOrHyphen))))

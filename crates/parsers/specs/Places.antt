@@ -1,11 +1,12 @@
 -- What places and tables say of a text, and what a reader at a place answers. Assumes nothing.
 use mathlib.Core.Path.{_≡_}
 use mathlib.Core.Bool.{Bool, true, false, cond}
-use mathlib.Core.List.{List, [], map}
+use mathlib.Core.List.{List, [], _∷_, _++_, map}
 use Prim.Native.Nat.{ℕ, suc, _+_, _≤_, _<_, min}
 use lib.Dec.{ltb}
 use lib.ListN.{take, drop, length, getD, set, replicate}
 use Rattle.std.specs.Holes.{between}
+use Rattle.std.specs.Options.{mapped}
 use Rattle.std.specs.declared.option.Option.{Option}
 use Rattle.std.specs.declared.option.Option.the-variants.{Some, None}
 use Rattle.parsers.specs.declared.table.Span.{Span}
@@ -14,7 +15,7 @@ use Rattle.parsers.specs.declared.table.Entry.the-variants.{Numeric, Alphanum}
 use Rattle.parsers.specs.declared.table.Table.{Table}
 use Rattle.parsers.specs.Piece.{Piece, numeric, alphanum}
 use Rattle.parsers.specs.Bytes.{letterOrHyphen, orDigit}
-use Rattle.parsers.specs.Reading.{Reader, stretch-of}
+use Rattle.parsers.specs.Reading.{Reader, perhaps-of, stretch-of}
 
 -- the bytes of a span, as far as the text goes
 abbrev pub bytes-in : List ℕ → Span → List ℕ
@@ -62,6 +63,10 @@ abbrev pub Gives : {U V : Type 0} → (U → V) → Reader V → List ℕ → �
 Gives den f text at None = f (drop at text) ≡ None
 Gives den f text at (Some r) = (f (drop at text) ≡ Some (den (r .0), drop (r .1) text)) × (at < r .1) × (r .1 ≤ length text)
 
+-- a part that may be absent, at a place
+abbrev pub PerhapsGives : {U V : Type 0} → (U → V) → Reader V → List ℕ → ℕ → Option U × ℕ → Type 0
+PerhapsGives den f text at r = (perhaps-of f (drop at text) ≡ (mapped den (r .0), drop (r .1) text)) × (at ≤ r .1) × (at ≤ length text → r .1 ≤ length text)
+
 -- the place behind a mark
 abbrev pub Marked : ℕ → List ℕ → ℕ → Option ℕ → Type 0
 Marked mark text at None = at < length text → getD text at 0 ≡ mark → ⊥
@@ -79,3 +84,8 @@ pushed t e = cond (ltb (t .count) 64) (record { entries = set (t .entries) (t .c
 abbrev pub Taken : {X : Type 0} → List X → ℕ → Option X → Type 0
 Taken {X = X} xs i None = length xs ≤ i
 Taken {X = X} xs i (Some x) = (i < length xs) × ((d : X) → getD xs i d ≡ x)
+
+-- the last element taken off a list xs, if there is one, which leaves ys
+abbrev pub Popped : {X : Type 0} → List X → List X → Option X → Type 0
+Popped xs ys None = (xs ≡ []) × (ys ≡ [])
+Popped xs ys (Some x) = xs ≡ ys ++ (x ∷ [])

@@ -6,7 +6,7 @@ ghost use Rattle.std.specs.Text.{asciiDigit, asciiLetter};
 ghost use Rattle.parsers.specs.Bytes.{letterOrHyphen, orDigit};
 ghost use Rattle.parsers.specs.Reading.{number-of, stretch-of, dotted-of, meta-of};
 ghost use Rattle.parsers.specs.Texts.{bytes-of};
-ghost use Rattle.parsers.specs.Places.{EndOf, Gives, Marked, bytes-in, Part, said-in, identifier-part};
+ghost use Rattle.parsers.specs.Places.{EndOf, Gives, PerhapsGives, Marked, bytes-in, Part, said-in, identifier-part};
 
 pub mod table;
 mod table_push;
@@ -80,15 +80,37 @@ pub impl Class for Digits as DigitsClass {
     }
 }
 
-/// The place behind a mark, if it stands at a place.
-pub fn mark(text: Text<'_>, at: usize, byte: u8) -> Option<usize>
-    ensures { λ r. ⌜ Marked byte (bytes-of (text .entry)) at r ⌝ }
+/// The place behind a mark, if it stands at a place of a slice.
+pub fn mark_at(bytes: &[u8], at: usize, byte: u8) -> Option<usize>
+    ensures { λ r. ⌜ Marked byte (now (bytes .entry)) at r ⌝ }
 {
-    if at < text.bytes.len() && text.bytes[at] == byte {
+    if at < bytes.len() && bytes[at] == byte {
         Some(at + 1)
     } else {
         None
     }
+}
+
+/// The place behind a mark, if it stands at a place.
+pub fn mark(text: Text<'_>, at: usize, byte: u8) -> Option<usize>
+    ensures { λ r. ⌜ Marked byte (bytes-of (text .entry)) at r ⌝ }
+{
+    mark_at(text.bytes, at, byte)
+}
+
+/// The run at a place, and the place behind it.
+pub fn alphanums(text: Text<'_>, at: usize) -> Option<(Span, usize)>
+    ensures { λ r. ⌜ Gives (bytes-in (bytes-of (text .entry))) (stretch-of (orDigit asciiLetter)) (bytes-of (text .entry)) at r ⌝ }
+{
+    let end = run_end(text.bytes, at);
+    if end <= at {
+        return None;
+    }
+    let span = Span {
+        from: at as u8,
+        to: end as u8,
+    };
+    Some((span, end))
 }
 
 /// The stretch of letters, digits and hyphens at a place, and the place behind it.
@@ -106,21 +128,21 @@ pub fn hyphenated_alphanums(text: Text<'_>, at: usize) -> Option<(Span, usize)>
     Some((span, end))
 }
 
-/// The number at a place, and the place behind it: 0 alone at the digit 0, otherwise the longest stretch of digits,
-/// if there is one and its value is at most 4,294,967,295.
-pub fn unsigned(text: Text<'_>, at: usize) -> Option<(u32, usize)>
-    ensures { λ r. ⌜ Gives (λ n. n) number-of (bytes-of (text .entry)) at r ⌝ }
+/// The number at a place of a slice, and the place behind it: 0 alone at the digit 0, otherwise the longest stretch of
+/// digits, if there is one and its value is at most 4,294,967,295.
+pub fn number_at(bytes: &[u8], at: usize) -> Option<(u32, usize)>
+    ensures { λ r. ⌜ Gives (λ n. n) number-of (now (bytes .entry)) at r ⌝ }
 {
-    if let Some(end) = mark(text, at, b'0') {
+    if let Some(end) = mark_at(bytes, at, b'0') {
         return Some((0, end));
     }
-    let end = stretch_end::<Digits>(text.bytes, at);
+    let end = stretch_end::<Digits>(bytes, at);
     if end <= at {
         return None;
     }
     let mut value: u32 = 0;
     for i in at..end {
-        let digit = u32::from(text.bytes[i] - b'0');
+        let digit = u32::from(bytes[i] - b'0');
         let Some(tens) = value.checked_mul(10) else {
             return None;
         };
@@ -130,6 +152,13 @@ pub fn unsigned(text: Text<'_>, at: usize) -> Option<(u32, usize)>
         value = sum;
     }
     Some((value, end))
+}
+
+/// The number at a place, and the place behind it.
+pub fn unsigned(text: Text<'_>, at: usize) -> Option<(u32, usize)>
+    ensures { λ r. ⌜ Gives (λ n. n) number-of (bytes-of (text .entry)) at r ⌝ }
+{
+    number_at(text.bytes, at)
 }
 
 /// A reader of one part of a list: the part at a place, and the place behind it.
@@ -189,4 +218,14 @@ pub fn meta(text: Text<'_>, at: usize) -> Option<(Span, usize)>
         to: end as u8,
     };
     Some((span, end))
+}
+
+/// The metadata at a place, if there is any, and the place behind it.
+pub fn perhaps_meta(text: Text<'_>, at: usize) -> (Option<Span>, usize)
+    ensures { λ r. ⌜ PerhapsGives (bytes-in (bytes-of (text .entry))) meta-of (bytes-of (text .entry)) at r ⌝ }
+{
+    match meta(text, at) {
+        Some((span, end)) => (Some(span), end),
+        None => (None, at),
+    }
 }

@@ -1,5 +1,5 @@
 ghost use mathlib.Core.Path.{_≡_};
-ghost use Rattle.parsers.specs.Places.{count-of, entries-of, table-of, pushed, bytes-in, Taken};
+ghost use Rattle.parsers.specs.Places.{count-of, entries-of, table-of, pushed, bytes-in, Taken, Popped};
 use crate::table::Entry;
 use crate::table::Span;
 use crate::table::Table;
@@ -23,6 +23,20 @@ impl Table {
             self.entries[self.count as usize] = part;
             self.count += 1;
         }
+    }
+
+    /// The last part, taken off the end, if there is one.
+    pub fn pop(&mut self) -> Option<Entry>
+        ensures { λ r. ⌜ Popped (entries-of (now (self .entry))) (entries-of (now (self .exit))) r ⌝ }
+    {
+        let entries: &[Entry] = &self.entries;
+        let count = (self.count as usize).min(entries.len());
+        if count == 0 {
+            return None;
+        }
+        let last = entries[count - 1];
+        self.count = (count - 1) as u8;
+        Some(last)
     }
 
     /// How many parts there are.

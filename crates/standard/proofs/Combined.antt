@@ -7,12 +7,11 @@ use Rattle.std.specs.Text.{asciiDigit}
 use Rattle.std.specs.Slices.{found}
 use Rattle.std.specs.declared.option.Option.{Option}
 use Rattle.std.specs.declared.option.Option.the-variants.{Some, None}
-use Rattle.parsers.specs.Bytes.{letterOrHyphen, orDigit}
-use Rattle.parsers.specs.Grammar.{Number, Behind, behind, Perhaps, Dotted, Stretch, Spelled}
+use Rattle.parsers.specs.Grammar.{Number, Behind, behind, Perhaps, Metadata}
 use Rattle.parsers.specs.Reading.{number-of, behind-of, perhaps-of, meta-of}
 use Rattle.parsers.specs.Whole.{Whole}
-use Rattle.parsers.proofs.Joining.{Stops, or, follow-found, Front, Reads, perhaps-sound, perhaps-complete, behind-reads, dotted-reads, spelled-reads, none-behind, stops-perhaps, whole}
-use Rattle.parsers.proofs.Parts.{number-reads, stretch-reads}
+use Rattle.parsers.proofs.Joining.{Stops, follow-found, Front, Reads, perhaps-sound, perhaps-complete, behind-reads, none-behind, stops-perhaps, whole}
+use Rattle.parsers.proofs.Parts.{number-reads, meta-reads}
 use Rattle.parsers.specs.Piece.{Piece}
 use Rattle.chunk.specs.Grammar.{Released}
 use Rattle.chunk.specs.Reading.{release-of}
@@ -20,17 +19,10 @@ use Rattle.chunk.proofs.Chunking.{release-reads}
 use Rattle.standard.specs.Parts.{Parts}
 use Rattle.standard.specs.Reading.{ideal-of}
 
--- a plus sign and the text of the metadata
-abbrev pub Built : List ℕ → List ℕ → Type 0
-Built = Behind 43 (Spelled (Dotted (Stretch (orDigit letterOrHyphen))))
-
 pub data Combined : List ℕ → Parts → Type 0 where
   combined : {x y z r m : List ℕ} {i j k : ℕ} {rs : Option (List Piece)} {ms : Option (List ℕ)}
-      → Number x i → Behind 46 Number y j → Behind 46 Number z k → Perhaps Released r rs → Perhaps Built m ms
+      → Number x i → Behind 46 Number y j → Behind 46 Number z k → Perhaps Released r rs → Perhaps Metadata m ms
       → Combined (x ++ (y ++ (z ++ (r ++ m)))) (record { major = i; minor = j; patch = k; release = rs; meta = ms })
-
-meta-reads : Reads meta-of Built (or 46 (orDigit letterOrHyphen))
-meta-reads = behind-reads (spelled-reads (dotted-reads (stretch-reads (orDigit letterOrHyphen)) refl)) 43
 
 next : Reads (behind-of 46 number-of) (Behind 46 Number) asciiDigit
 next = behind-reads number-reads 46

@@ -14,14 +14,14 @@ use Rattle.std.proofs.shelf.Tests.{cases-bool, cases-eq, eqb-true, or-parts, or
 use Rattle.std.proofs.shelf.Ways.{tells}
 use Rattle.parsers.specs.Bytes.{letterOrHyphen, orDigit, Each, any}
 use Rattle.parsers.specs.Grammar as g
-use Rattle.parsers.specs.Grammar.{limit, worth, Number, Stretch, stretch, Behind, Many, Dotted, dotted, Perhaps, absent, present, spelled}
+use Rattle.parsers.specs.Grammar.{limit, worth, Number, Stretch, stretch, Behind, Many, Dotted, dotted, Perhaps, absent, present, spelled, Metadata}
 use Rattle.parsers.specs.Piece.{Piece, numeric, alphanum}
 use Rattle.chunk.specs.Grammar.{Chunked, number, word, Released}
 use Rattle.standard.specs.Parts.{Parts, Capped, CappedRelease, Within}
 use Rattle.standard.specs.Grammar as s
 use Rattle.standard.specs.Grammar.{Letter, upper, lower, PositiveDigit, Digit, Digits, NonDigit, letter, hyphen, IdentifierCharacter, IdentifierCharacters, NumericIdentifier, AlphanumericIdentifier, alone, before, amid, PreReleaseIdentifier, BuildIdentifier, PreRelease, Build, VersionCore, core, ValidSemver, plain, released, built, full}
 use Rattle.standard.specs.Theorems.{Ideal}
-use Rattle.standard.proofs.Combined.{Built, Combined, combined}
+use Rattle.standard.proofs.Combined.{Combined, combined}
 
 -- bytes
 positive-to : {b : ℕ} → PositiveDigit b → (48 < b) × (asciiDigit b ≡ true)
@@ -207,7 +207,7 @@ build-from = by-dots _ (λ w _. Build w) (λ _ _ q. s.one (stretch-from q)) (λ 
 
 -- the whole
 with-tail : {c r m : List ℕ} {i j k : ℕ} {rs : Option (List Piece)} {ms : Option (List ℕ)} → VersionCore c i j k
-    → Within limit (record { major = i; minor = j; patch = k; release = rs; meta = ms }) → Perhaps Released r rs → Perhaps Built m ms
+    → Within limit (record { major = i; minor = j; patch = k; release = rs; meta = ms }) → Perhaps Released r rs → Perhaps Metadata m ms
     → Combined (c ++ (r ++ m)) (record { major = i; minor = j; patch = k; release = rs; meta = ms })
 with-tail (core a b d) l u v = simp append-assoc (combined (number-to a (l .major)) (g.behind (number-to b (l .minor))) (g.behind (number-to d (l .patch))) u v)
 
@@ -227,7 +227,7 @@ released-from : {r : List ℕ} {rs : Option (List Piece)} → Perhaps Released r
 released-from absent = tt
 released-from (present (g.behind r)) = release-from r .1
 
-tail-from : {c r m : List ℕ} {i j k : ℕ} {rs : Option (List Piece)} {ms : Option (List ℕ)} → VersionCore c i j k → Perhaps Released r rs → Perhaps Built m ms
+tail-from : {c r m : List ℕ} {i j k : ℕ} {rs : Option (List Piece)} {ms : Option (List ℕ)} → VersionCore c i j k → Perhaps Released r rs → Perhaps Metadata m ms
     → ValidSemver (c ++ (r ++ m)) (record { major = i; minor = j; patch = k; release = rs; meta = ms })
 tail-from c absent absent = rw append-nil (plain c)
 tail-from c (present (g.behind r)) absent = rw append-nil (released c (release-from r .0))

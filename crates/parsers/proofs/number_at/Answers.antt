@@ -1,9 +1,8 @@
 use borrow.Author.Needs.{needs}
 use native.Mathlib.Omega.{arith}
 use mathlib.Core.Path.{_≡_, subst}
-use Rattle.parsers.specs.Texts.{bytes-of}
 use Rattle.parsers.proofs.Numbers.{Counting, nought, further, over, none, done}
-use Rattle.parsers.proofs.unsigned.Needs as need
+use Rattle.parsers.proofs.number_at.Needs as need
 
 pub returns-in-Some : need.returns-in-Some
 returns-in-Some c = nought _ _ _ (c .in-Some .ensures tt)
@@ -26,4 +25,4 @@ loop-i-again c =
 pub returns : need.returns
 returns c =
     let i : c .loop-i .i ≡ c .stretch-end-end .result = omega arith in
-    done (c .stretch-end-end .ensures) (c .in-rest .ensures tt) (subst (λ k. Counting (bytes-of (c .args .text)) (c .args .at) k (c .loop-i .value)) i (c .loop-i .inv)) (c .if-end-at .left)
+    done (c .stretch-end-end .ensures) (c .in-rest .ensures tt) (subst (λ k. Counting (c .args .bytes .now) (c .args .at) k (c .loop-i .value)) i (c .loop-i .inv)) (c .if-end-at .left)

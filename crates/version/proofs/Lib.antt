@@ -1,0 +1,4 @@
+pub mod Lasts
+pub mod Generals
+pub mod Fronts
+pub mod Places
