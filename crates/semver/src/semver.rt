@@ -2,19 +2,16 @@
 ghost use mathlib.Core.Path.{_≡_};
 ghost use Rattle.parsers.specs.Answers.{told, parsed-by, new-by, NewReads};
 ghost use Rattle.parsers.specs.Places.{Gives};
-ghost use Rattle.parsers.specs.Reading.{meta-of};
 ghost use Rattle.parsers.specs.Texts.{bytes-of};
-ghost use Rattle.parsers.specs.Places.{bytes-in};
-ghost use Rattle.chunk.specs.Reading.{release-of};
-ghost use Rattle.chunk.specs.Tables.{release-in};
 ghost use Rattle.standard.specs.Reading.{ideal-of};
 ghost use Rattle.standard.specs.Theorems.{Ideal as StandardIdeal};
-ghost use Rattle.semver.specs.Labels.{parts-in, read-in, PerhapsGives};
+ghost use Rattle.semver.specs.Labels.{parts-in, read-in};
 use chunk::release::Release;
+use chunk::release::perhaps_release;
 use fault::LabelFault;
 use parsers::check_length;
 use parsers::mark;
-use parsers::meta;
+use parsers::perhaps_meta;
 use parsers::table::Span;
 use parsers::text::Text;
 use parsers::unsigned;
@@ -27,26 +24,6 @@ pub struct SemVer {
     pub patch: u32,
     pub pre_rel: Option<Release>,
     pub meta: Option<Span>,
-}
-
-/// The Release at a place, if there is one, and the place behind it.
-fn perhaps_release(text: Text<'_>, at: usize) -> (Option<Release>, usize)
-    ensures { λ r. ⌜ PerhapsGives (release-in (bytes-of (text .entry))) release-of (bytes-of (text .entry)) at r ⌝ }
-{
-    match Release::parse(text, at) {
-        Some((release, end)) => (Some(release), end),
-        None => (None, at),
-    }
-}
-
-/// The metadata at a place, if there is any, and the place behind it.
-fn perhaps_meta(text: Text<'_>, at: usize) -> (Option<Span>, usize)
-    ensures { λ r. ⌜ PerhapsGives (bytes-in (bytes-of (text .entry))) meta-of (bytes-of (text .entry)) at r ⌝ }
-{
-    match meta(text, at) {
-        Some((span, end)) => (Some(span), end),
-        None => (None, at),
-    }
 }
 
 impl SemVer {
