@@ -61,7 +61,12 @@ impl Begun {
 }
 
 /// Answers each line that ends in a block, and keeps what is left.
-pub fn take_block(block: &[u8], begun: &mut Begun, desk: &mut Desk, output: &mut Stdout) -> io::Result<()> {
+pub fn take_block(
+    block: &[u8],
+    begun: &mut Begun,
+    desk: &mut Desk,
+    output: &mut Stdout,
+) -> io::Result<()> {
     let mut at = 0;
     while let Some(end) = line_end(block, at) {
         let part = &block[at..end];

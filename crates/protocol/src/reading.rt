@@ -1,12 +1,12 @@
 //! Reading a line.
 ghost use mathlib.Core.Path.{_≡_};
-ghost use mathlib.Core.Bool.{_||_};
 ghost use Rattle.std.specs.shelf.Text.{sameBytes};
 ghost use Rattle.protocol.specs.Commands.{asked, blank, comment, form-of, new-of, parse-of, compare-of, known-of, command-of};
 use crate::asked::Command;
 use crate::asked::Form;
 use lines::split::split_blank;
 
+// Whether a line has only blanks, or nothing.
 fn is_blank(line: &[u8]) -> bool
     ensures { λ r. ⌜ r ≡ blank (now (line .entry)) ⌝ }
 {
@@ -42,6 +42,7 @@ fn form_named(name: &[u8]) -> Option<Form>
     }
 }
 
+// `new FORM T`
 fn new(fields: &[u8]) -> Command<'_>
     ensures { λ r. ⌜ asked r ≡ new-of (now (fields .entry)) ⌝ }
 {
@@ -52,6 +53,7 @@ fn new(fields: &[u8]) -> Command<'_>
     }
 }
 
+// `parse FORM T`
 fn parse(fields: &[u8]) -> Command<'_>
     ensures { λ r. ⌜ asked r ≡ parse-of (now (fields .entry)) ⌝ }
 {
@@ -62,6 +64,7 @@ fn parse(fields: &[u8]) -> Command<'_>
     }
 }
 
+// `cmpf FORM T1 T2`
 fn compare(fields: &[u8]) -> Command<'_>
     ensures { λ r. ⌜ asked r ≡ compare-of (now (fields .entry)) ⌝ }
 {
@@ -73,6 +76,7 @@ fn compare(fields: &[u8]) -> Command<'_>
     }
 }
 
+// The command that a first word names, with what stands behind it.
 fn known<'a>(word: &[u8], fields: &'a [u8]) -> Command<'a>
     ensures { λ r. ⌜ asked r ≡ known-of (now (word .entry)) (now (fields .entry)) ⌝ }
 {
@@ -87,7 +91,7 @@ fn known<'a>(word: &[u8], fields: &'a [u8]) -> Command<'a>
     }
 }
 
-/// What a line asks.
+/// What a line asks. Nothing behind the last blank, or no blank there, is a field that is empty.
 pub fn command(line: &[u8]) -> Command<'_>
     ensures { λ r. ⌜ asked r ≡ command-of (now (line .entry)) ⌝ }
 {

@@ -1,12 +1,11 @@
 -- Chunks are written one by one, each but the first behind a comma.
-use mathlib.Core.Path.{_≡_, refl, sym, ap, _∙_}
+use mathlib.Core.Path.{_≡_, sym, ap, _∙_}
 use mathlib.Core.List.{List, [], _∷_, _++_, append-assoc}
 use Prim.Native.Nat.{ℕ, zero, suc, _+_, _≤_, _<_}
 use native.Mathlib.Numerals.{add-one}
 use native.Mathlib.Omega.{arith}
 use lib.Chars.{codes}
 use lib.ListN.{length, take, getD}
-use Rattle.std.specs.shelf.Lists.{joined}
 use Rattle.std.proofs.shelf.Lists.{append-nil, joined-more, take-more, take-all}
 use Rattle.std.proofs.shelf.Tests.{cond-false, ne-eqb}
 use Rattle.parsers.specs.Piece.{Piece}

@@ -17,7 +17,6 @@ use fault::Layer;
 use order::Parts;
 use protocol::answer::Answer;
 use semver::ideal::IdealIn;
-use semver::semver::SemVer;
 use std::alloc::AllocError;
 use std::cmp::Ordering;
 

@@ -47,7 +47,8 @@ abbrev pub final-of : Piece → List Piece → Piece
 final-of x [] = x
 final-of x (y ∷ ys) = final-of y ys
 
--- perhaps an epoch, then chunks, then perhaps a Release, then perhaps metadata; an epoch once read is kept
+-- perhaps an epoch, then chunks, then perhaps a Release, then perhaps metadata; an epoch once read is kept. Chunks are one
+-- or more, so that there is a last one
 abbrev pub general-of : Reader Parts
 general-of bs =
     let e = perhaps-of epoch-of bs in

@@ -188,3 +188,14 @@ module _ {A B C : Type 0} (I : Reader A) (G : Reader B) (K : Reader C) (text : L
 
   pub parsed-first : parsed-by (first-of I G K) text ≡ first-parsed (parsed-by I text) (parsed-by G text) (parsed-by K text)
   parsed-first = ⊎-elim (λ s. rw (enters text (s .0) (s .1)) (by-readers (I text) (G text) (K text))) (λ l. let e = l .2 in rw e refl) (lengths text)
+
+  pub parsed-ideal : (a : A) (n : ℕ) → _≡_ {A = Result (A × ℕ) LabelFault} (Ok (a, n)) (parsed-by I text) → _≡_ {A = Result (OneOf A B C × ℕ) LabelFault} (Ok (ideal a, n)) (parsed-by (first-of I G K) text)
+  parsed-ideal a n e = ap (λ i. first-parsed i (parsed-by G text) (parsed-by K text)) e ∙ sym parsed-first
+
+  module _ (f : LabelFault) (d : _≡_ {A = Result (A × ℕ) LabelFault} (Err f) (parsed-by I text)) where
+    pub parsed-general : (b : B) (n : ℕ) → _≡_ {A = Result (B × ℕ) LabelFault} (Ok (b, n)) (parsed-by G text) → _≡_ {A = Result (OneOf A B C × ℕ) LabelFault} (Ok (general b, n)) (parsed-by (first-of I G K) text)
+    parsed-general b n e = ap (λ g. first-parsed (Err f) g (parsed-by K text)) e ∙ ap (λ i. first-parsed i (parsed-by G text) (parsed-by K text)) d ∙ sym parsed-first
+
+    module _ (h : LabelFault) (e : _≡_ {A = Result (B × ℕ) LabelFault} (Err h) (parsed-by G text)) where
+      pub parsed-third : (k : Result (C × ℕ) LabelFault) → k ≡ parsed-by K text → first-parsed (Err f) (Err h) k ≡ parsed-by (first-of I G K) text
+      parsed-third k j = ap (λ x. first-parsed (Err f) (Err h) x) j ∙ ap (λ g. first-parsed (Err f) g (parsed-by K text)) e ∙ ap (λ i. first-parsed i (parsed-by G text) (parsed-by K text)) d ∙ sym parsed-first
