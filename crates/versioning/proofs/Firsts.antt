@@ -35,9 +35,9 @@ lengths : (text : List ℕ) → Short text ⊎ ((f : LabelFault) × ForLength f 
 lengths text = ⊎-elim
     (λ z. inr (Empty, tt, cond-true _ _ _ (eq-eqb (length text) 0 z)))
     (λ nz. ⊎-elim
-      (λ l. inr (TooLong longest, tt, cond-false _ _ _ (ne-eqb (length text) 0 nz) ∙ cond-false _ _ _ (lt-leb (length text) longest l)))
-      (λ l. inl (omega (arith, nz), l))
-      (cases-lt longest (length text)))
+    (λ l. inr (TooLong longest, tt, cond-false _ _ _ (ne-eqb (length text) 0 nz) ∙ cond-false _ _ _ (lt-leb (length text) longest l)))
+    (λ l. inl (omega (arith, nz), l))
+    (cases-lt longest (length text)))
     (cases-eq (length text) 0)
 
 module _ {C : Type 0} (R : Reader C) (text : List ℕ) where
@@ -59,11 +59,11 @@ module _ {C : Type 0} (R : Reader C) (text : List ℕ) where
       let p : parsed-by R text ≡ front (R text) = rw (enters text (s .0) (s .1)) refl in
       go (R text) (sym (ap newly p) ∙ e)
     where
-    go : (o : Option (C × List ℕ)) → newly (front o) ≡ Err f → f ≡ NoForm (follow o (λ _ rest. length text - length rest) 0)
-    go None h = cc
-    go (Some x) h = cond-both (eqb (length text - length (x .1)) (length text)) (Ok (x .0)) (Err (NoForm (length text - length (x .1)))) (λ r. r ≡ Err f → f ≡ NoForm (length text - length (x .1)))
-        (λ _ k. let z : _≡_ {A = ℕ} 0 1 = cc in absurd (omega arith))
-        (λ _ k. cc) h
+      go : (o : Option (C × List ℕ)) → newly (front o) ≡ Err f → f ≡ NoForm (follow o (λ _ rest. length text - length rest) 0)
+      go None h = cc
+      go (Some x) h = cond-both (eqb (length text - length (x .1)) (length text)) (Ok (x .0)) (Err (NoForm (length text - length (x .1)))) (λ r. r ≡ Err f → f ≡ NoForm (length text - length (x .1)))
+          (λ _ k. let z : _≡_ {A = ℕ} 0 1 = cc in absurd (omega arith))
+          (λ _ k. cc) h
 
 ok-not-err : {A : Type 0} {a : A} {f : LabelFault} {r : Result A LabelFault} → r ≡ Ok a → r ≡ Err f → ⊥
 ok-not-err p q = let z : _≡_ {A = ℕ} 0 1 = cc in omega arith
@@ -88,7 +88,7 @@ module _ {D : Type 0} {S : Grammar D} {text : List ℕ} {n : ℕ} {r : Result D 
 
 module _ {A B C : Type 0} {P : Grammar A} {Q : Grammar B} {R : Grammar C} {text : List ℕ} {l m n : ℕ} where
   first-taken : (i : Result A LabelFault) (g : Result B LabelFault) (k : Result C LabelFault) → Asked P text l i → Asked Q text m g → Asked R text n k
-    → (x : OneOf A B C) → first-answer i g k ≡ Ok x → FirstForm P Q R text x
+      → (x : OneOf A B C) → first-answer i g k ≡ Ok x → FirstForm P Q R text x
   first-taken (Ok a) g k ai ag ak x e = let same : ideal a ≡ x = cc in subst (FirstForm P Q R text) same (as-ideal (ai .reads .taken a refl))
   first-taken (Err f) (Ok b) k ai ag ak x e =
       let same : general b ≡ x = cc in
@@ -101,7 +101,7 @@ module _ {A B C : Type 0} {P : Grammar A} {Q : Grammar B} {R : Grammar C} {text 
   first-taken (Err f) (Err h) (Err j) ai ag ak x e = let z : _≡_ {A = ℕ} 0 1 = cc in absurd (omega arith)
 
   first-takes : (i : Result A LabelFault) (g : Result B LabelFault) (k : Result C LabelFault) → Asked P text l i → Asked Q text m g → Asked R text n k
-    → (x : OneOf A B C) → 1 ≤ length text → length text ≤ longest → FirstForm P Q R text x → first-answer i g k ≡ Ok x
+      → (x : OneOf A B C) → 1 ≤ length text → length text ≤ longest → FirstForm P Q R text x → first-answer i g k ≡ Ok x
   first-takes i g k ai ag ak x low high (as-ideal h) = ap (λ r. first-answer r g k) (ai .reads .takes _ low high h)
   first-takes (Ok a) g k ai ag ak x low high (as-general ni h) = absurd (ni a (ai .reads .taken a refl))
   first-takes (Err f) g k ai ag ak x low high (as-general ni h) = ap (λ r. first-answer (Err f) r k) (ag .reads .takes _ low high h)
@@ -110,7 +110,7 @@ module _ {A B C : Type 0} {P : Grammar A} {Q : Grammar B} {R : Grammar C} {text 
   first-takes (Err f) (Err j) k ai ag ak x low high (as-complex ni ng h) = ap (λ r. first-answer (Err f) (Err j) r) (ak .reads .takes _ low high h)
 
   first-once : {i : Result A LabelFault} {g : Result B LabelFault} {k : Result C LabelFault} → Asked P text l i → Asked Q text m g → Asked R text n k
-    → (x y : OneOf A B C) → FirstForm P Q R text x → FirstForm P Q R text y → x ≡ y
+      → (x y : OneOf A B C) → FirstForm P Q R text x → FirstForm P Q R text y → x ≡ y
   first-once ai ag ak x y (as-ideal h) (as-ideal j) = ap ideal (ai .reads .one-reading _ _ h j)
   first-once ai ag ak x y (as-ideal h) (as-general ni j) = absurd (ni _ h)
   first-once ai ag ak x y (as-ideal h) (as-complex ni ng j) = absurd (ni _ h)
@@ -129,17 +129,19 @@ module _ {A B C : Type 0} {P : Grammar A} {Q : Grammar B} {R : Grammar C} {text 
   by-form : (f h j : LabelFault) (o : ℕ) → Asked P text l (Err f) → Asked Q text m (Err h) → Asked R text n (Err j) → further f (further h j) ≡ NoForm o → Short text
   by-form f h j o ai ag ak e = ⊎-elim (λ s. s) (λ x. absurd (go (x .0) (x .1) (ai .long (x .0) (x .2)) (ag .long (x .0) (x .2)) (ak .long (x .0) (x .2)))) (lengths text)
     where
-    same : {D : Type 0} {u v : LabelFault} → _≡_ {A = Result D LabelFault} (Err u) (Err v) → u ≡ v
-    same p = cc
-    clash : (u : LabelFault) → ForLength u → further u (further u u) ≡ NoForm o → ⊥
-    clash Empty t q = let z : _≡_ {A = ℕ} 0 1 = cc in omega arith
-    clash (TooLong y) t q = let z : _≡_ {A = ℕ} 0 1 = cc in omega arith
-    clash (NoForm y) t q = t
-    go : (u : LabelFault) → ForLength u → _≡_ {A = Result A LabelFault} (Err f) (Err u) → _≡_ {A = Result B LabelFault} (Err h) (Err u) → _≡_ {A = Result C LabelFault} (Err j) (Err u) → ⊥
-    go u t p q r = clash u t (subst (λ v. further v (further u u) ≡ NoForm o) (same p) (subst (λ v. further f (further v u) ≡ NoForm o) (same q) (subst (λ v. further f (further h v) ≡ NoForm o) (same r) e)))
+      same : {D : Type 0} {u v : LabelFault} → _≡_ {A = Result D LabelFault} (Err u) (Err v) → u ≡ v
+      same p = cc
+
+      clash : (u : LabelFault) → ForLength u → further u (further u u) ≡ NoForm o → ⊥
+      clash Empty t q = let z : _≡_ {A = ℕ} 0 1 = cc in omega arith
+      clash (TooLong y) t q = let z : _≡_ {A = ℕ} 0 1 = cc in omega arith
+      clash (NoForm y) t q = t
+
+      go : (u : LabelFault) → ForLength u → _≡_ {A = Result A LabelFault} (Err f) (Err u) → _≡_ {A = Result B LabelFault} (Err h) (Err u) → _≡_ {A = Result C LabelFault} (Err j) (Err u) → ⊥
+      go u t p q r = clash u t (subst (λ v. further v (further u u) ≡ NoForm o) (same p) (subst (λ v. further f (further v u) ≡ NoForm o) (same q) (subst (λ v. further f (further h v) ≡ NoForm o) (same r) e)))
 
   first-refused : (i : Result A LabelFault) (g : Result B LabelFault) (k : Result C LabelFault) → Asked P text l i → Asked Q text m g → Asked R text n k
-    → (o : ℕ) → first-answer i g k ≡ Err (NoForm o) → (1 ≤ length text) × (length text ≤ longest) × NoneOf P Q R text × (o ≡ max l (max m n))
+      → (o : ℕ) → first-answer i g k ≡ Err (NoForm o) → (1 ≤ length text) × (length text ≤ longest) × NoneOf P Q R text × (o ≡ max l (max m n))
   first-refused (Ok a) g k ai ag ak o e = let z : _≡_ {A = ℕ} 0 1 = cc in absurd (omega arith)
   first-refused (Err f) (Ok b) k ai ag ak o e = let z : _≡_ {A = ℕ} 0 1 = cc in absurd (omega arith)
   first-refused (Err f) (Err h) (Ok c) ai ag ak o e = let z : _≡_ {A = ℕ} 0 1 = cc in absurd (omega arith)
@@ -151,7 +153,7 @@ module _ {A B C : Type 0} {P : Grammar A} {Q : Grammar B} {R : Grammar C} {text 
       (s .0, s .1, record { no-ideal = none ai s refl; no-general = none ag s refl; no-complex = none ak s refl }, w)
 
   first-refuses : (i : Result A LabelFault) (g : Result B LabelFault) (k : Result C LabelFault) → Asked P text l i → Asked Q text m g → Asked R text n k
-    → 1 ≤ length text → length text ≤ longest → NoneOf P Q R text → (o : ℕ) × (first-answer i g k ≡ Err (NoForm o))
+      → 1 ≤ length text → length text ≤ longest → NoneOf P Q R text → (o : ℕ) × (first-answer i g k ≡ Err (NoForm o))
   first-refuses (Ok a) g k ai ag ak low high ns = absurd (ns .no-ideal a (ai .reads .taken a refl))
   first-refuses (Err f) (Ok b) k ai ag ak low high ns = absurd (ns .no-general b (ag .reads .taken b refl))
   first-refuses (Err f) (Err h) (Ok c) ai ag ak low high ns = absurd (ns .no-complex c (ak .reads .taken c refl))
@@ -180,7 +182,7 @@ module _ {A B C : Type 0} {I : Reader A} {G : Reader B} {K : Reader C} {P : Gram
 -- `parse` of the first form, from those of the three
 module _ {A B C : Type 0} (I : Reader A) (G : Reader B) (K : Reader C) (text : List ℕ) where
   by-readers : (i : Option (A × List ℕ)) (g : Option (B × List ℕ)) (k : Option (C × List ℕ))
-    → front (first-of I G K) text (follow i (λ a rest. Some (ideal a, rest)) (follow g (λ b rest. Some (general b, rest)) (follow k (λ c rest. Some (complex c, rest)) None))) ≡ first-parsed (front I text i) (front G text g) (front K text k)
+      → front (first-of I G K) text (follow i (λ a rest. Some (ideal a, rest)) (follow g (λ b rest. Some (general b, rest)) (follow k (λ c rest. Some (complex c, rest)) None))) ≡ first-parsed (front I text i) (front G text g) (front K text k)
   by-readers (Some a) g k = refl
   by-readers None (Some b) k = refl
   by-readers None None (Some c) = refl
