@@ -5,7 +5,7 @@ ghost use lib.ListN.{length, getD};
 ghost use denote.Ref.{now};
 ghost use Rattle.order.specs.Lists.{lex};
 ghost use Rattle.order.specs.Orders.{Same};
-ghost use Rattle.parsers.specs.Places.{Gives, PerhapsGives, count-of};
+ghost use Rattle.parsers.specs.Places.{Gives, count-of};
 ghost use Rattle.parsers.proofs.Lists.{said-counted};
 ghost use Rattle.parsers.specs.Texts.{bytes-of};
 ghost use Rattle.chunk.specs.Reading.{release-of};
@@ -55,16 +55,6 @@ impl Release {
             return None;
         };
         Some((Release { chunks: list.0 }, list.1))
-    }
-}
-
-/// The Release at a place, if there is one, and the place behind it.
-pub fn perhaps_release(text: Text<'_>, at: usize) -> (Option<Release>, usize)
-    ensures { λ r. ⌜ PerhapsGives (release-in (bytes-of (text .entry))) release-of (bytes-of (text .entry)) at r ⌝ }
-{
-    match Release::parse(text, at) {
-        Some((release, end)) => (Some(release), end),
-        None => (None, at),
     }
 }
 

@@ -30,7 +30,7 @@ abbrev pub past-r : List ℕ → List ℕ
 past-r [] = []
 past-r (b ∷ w) = w
 
--- what a run is
+-- what a run is alone
 abbrev pub sorted : List ℕ → MChunk
 sorted w = cond (counts w) (digits (worth 0 w) w) (cond (revises w) (rev (worth 0 (past-r w)) w) (plain w))
 
@@ -47,7 +47,7 @@ abbrev pub ended : List ℕ → Bool
 ended [] = true
 ended (b ∷ bs) = joint b
 
--- the run in front; before another byte it is Plain, whatever it looks like
+-- the run in front: what it is alone before a dot, a level sign or the end, and Plain before any other byte
 abbrev pub mchunk-of : Reader MChunk
 mchunk-of bs = follow (stretch-of (orDigit asciiLetter) bs) (λ w rest. Some (cond (ended rest) (sorted w) (plain w), rest)) None
 

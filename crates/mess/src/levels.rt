@@ -70,6 +70,7 @@ fn next(rest: &[u8], from: usize, chunks: &mut Rows<MEntry>, levels: &mut Rows<L
     match parse(behind, from + 1, chunks, levels) {
         Some(end) => end,
         None => {
+            // No level stands behind the sign: its entry is taken back.
             levels.count = count;
             from
         }

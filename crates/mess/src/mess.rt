@@ -31,7 +31,7 @@ pub struct Mess {
 
 impl Mess {
     /// The level sign that a byte is, if it is one.
-    pub fn sep(byte: u8) -> Option<Sep>
+    pub(crate) fn sep(byte: u8) -> Option<Sep>
         ensures { λ r. ⌜ r ≡ sep-of byte ⌝ }
     {
         match byte {

@@ -16,7 +16,7 @@ pub struct Rows<T> {
 
 impl<T: Copy> Rows<T> {
     /// A table of no rows.
-    pub fn new(blank: T) -> Rows<T>
+    pub(crate) fn new(blank: T) -> Rows<T>
         ensures { λ r. ⌜ r ≡ blank-rows blank ⌝ }
     {
         Rows {
@@ -26,7 +26,7 @@ impl<T: Copy> Rows<T> {
     }
 
     /// One row more at the end; a full table stays as it is.
-    pub fn push(&mut self, row: T)
+    pub(crate) fn push(&mut self, row: T)
         ensures { λ _. ⌜ now (self .exit) ≡ pushed (now (self .entry)) row ⌝ }
     {
         if self.count < 64 {
@@ -36,7 +36,7 @@ impl<T: Copy> Rows<T> {
     }
 
     /// How many rows there are.
-    pub fn len(&self) -> usize
+    pub(crate) fn len(&self) -> usize
         ensures { λ r. ⌜ r ≡ count-of (now (self .entry)) ⌝ }
     {
         let rows: &[T] = &self.rows;
@@ -44,7 +44,7 @@ impl<T: Copy> Rows<T> {
     }
 
     /// The row at an index, if there is one.
-    pub fn get(&self, i: usize) -> Option<T>
+    pub(crate) fn get(&self, i: usize) -> Option<T>
         ensures row { λ r. ⌜ Taken (rows-of (now (self .entry))) i r ⌝ }
         ensures few { λ r. ⌜ (isSome r ≡ true → i < 256) ⌝ }
     {
@@ -55,8 +55,9 @@ impl<T: Copy> Rows<T> {
             None
         }
     }
+
     /// The row at an index of those from one place to another, if there is one.
-    pub fn within(&self, begin: usize, end: usize, i: usize) -> Option<T>
+    pub(crate) fn within(&self, begin: usize, end: usize, i: usize) -> Option<T>
         ensures { λ r. ⌜ Taken (between begin end (rows-of (now (self .entry)))) i r ⌝ }
     {
         if i >= end.saturating_sub(begin) {

@@ -6,7 +6,7 @@ ghost use Rattle.std.specs.Text.{asciiDigit, asciiLetter};
 ghost use Rattle.parsers.specs.Bytes.{letterOrHyphen, orDigit};
 ghost use Rattle.parsers.specs.Reading.{number-of, stretch-of, dotted-of, meta-of};
 ghost use Rattle.parsers.specs.Texts.{bytes-of};
-ghost use Rattle.parsers.specs.Places.{EndOf, Gives, PerhapsGives, Marked, bytes-in, Part, said-in, identifier-part};
+ghost use Rattle.parsers.specs.Places.{EndOf, Gives, Marked, bytes-in, Part, said-in, identifier-part};
 
 pub mod table;
 mod table_push;
@@ -218,14 +218,4 @@ pub fn meta(text: Text<'_>, at: usize) -> Option<(Span, usize)>
         to: end as u8,
     };
     Some((span, end))
-}
-
-/// The metadata at a place, if there is any, and the place behind it.
-pub fn perhaps_meta(text: Text<'_>, at: usize) -> (Option<Span>, usize)
-    ensures { λ r. ⌜ PerhapsGives (bytes-in (bytes-of (text .entry))) meta-of (bytes-of (text .entry)) at r ⌝ }
-{
-    match meta(text, at) {
-        Some((span, end)) => (Some(span), end),
-        None => (None, at),
-    }
 }
