@@ -31,7 +31,7 @@ fn mchunks(rest: &[u8], from: usize, chunks: &mut Rows<MEntry>) -> Option<usize>
 
 /// The level in front of a rest and those behind it into the tables, and the place behind them in the text. The rest
 /// begins at the place `from` of the text.
-pub fn parse(
+pub(crate) fn parse(
     rest: &[u8],
     from: usize,
     chunks: &mut Rows<MEntry>,
