@@ -1,4 +1,6 @@
 //! The bench: does the commands of a job, and says in plain words what came of each.
+#![tactic(auto)]
+
 mod answers;
 mod input;
 mod refusal;

@@ -1,4 +1,6 @@
 //! Why a text was turned down, and where.
+#![tactic(auto)]
+
 ghost use Rattle.std.specs.Prelude.{◌≡◌};
 ghost use Rattle.fault.specs.Told.{label_told};
 

@@ -1,4 +1,6 @@
 //! Complex labels: levels of MChunks, joined by level signs.
+#![tactic(auto)]
+
 mod class;
 mod levels;
 pub mod mchunk;

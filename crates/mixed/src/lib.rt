@@ -1,4 +1,6 @@
 //! How labels of different forms compare, and so every two labels.
+#![tactic(auto)]
+
 pub mod semver;
 pub mod semver_mess;
 pub mod version;

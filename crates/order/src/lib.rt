@@ -1,4 +1,6 @@
 //! Orders of elements, and the one comparison of lists that hand out their parts.
+#![tactic(auto)]
+
 ghost use Rattle.std.specs.Prelude.{◌≡◌, ℕ, ◌<◌, List, length, slice_index_or, refl};
 ghost use Rattle.std.specs.Cmp.{rank as byNumber};
 ghost use Rattle.order.specs.Laws.{Strict};

@@ -1,4 +1,6 @@
 //! Readers at a place in a text, which several forms of label share.
+#![tactic(auto)]
+
 ghost use Rattle.std.specs.Prelude.{◌≡◌, ℕ, Bool};
 ghost use Rattle.std.specs.Char.{is_ascii_digit, is_ascii_alphabetic};
 ghost use Rattle.parsers.specs.Bytes.{letter_or_hyphen, or_digit};

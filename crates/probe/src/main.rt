@@ -1,3 +1,4 @@
+#![tactic(auto)]
 // Answers the commands on standard input, one to a line, on standard output.
 ghost use Rattle.std.specs.Io.{ReadsAtMost};
 

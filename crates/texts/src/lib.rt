@@ -1,4 +1,6 @@
 //! Texts that are read, and tables of places in them.
+#![tactic(auto)]
+
 pub mod table;
 mod table_push;
 pub mod text;

@@ -1,4 +1,6 @@
 //! Texts that are not a slice of a label: bytes, with a number written in front of them, behind them, or neither.
+#![tactic(auto)]
+
 ghost use Rattle.std.specs.Prelude.{◌≡◌, ◌<◌, ◌≤◌, ◌++◌, length, decimal, slice_index_or, refl};
 ghost use Rattle.std.specs.Cmp.{rank as byNumber};
 ghost use Rattle.order.specs.Lists.{lex};

@@ -1,4 +1,6 @@
 //! How the parts of a label are written for a program.
+#![tactic(auto)]
+
 mod chunks;
 mod complex;
 mod general;
