@@ -7,8 +7,8 @@ use job::against::{Verdict, against};
 use job::command::{Command, without_return};
 use lines::shown::shown;
 use order::Parts;
-use semver::ideal::IdealIn;
-use semver::semver::SemVer;
+use ideals::ideal::IdealIn;
+use ideals::semver::SemVer;
 use std::io;
 
 /// Prints a line, and below it what came of it. Blank lines are passed over.

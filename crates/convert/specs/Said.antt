@@ -2,7 +2,7 @@
 use Rattle.std.specs.Prelude.{List, [], ◌∷◌, ◌++◌, map}
 use Rattle.chunk.specs.Tables.{listed_in, view_in}
 use Rattle.general.specs.Views as general
-use Rattle.semver.specs.Views as ideal
+use Rattle.ideals.specs.Views as ideal
 use Rattle.mess.specs.declared.sep.Sep.{Sep}
 use Rattle.mess.specs.Parts.{MChunk, Parts}
 use Rattle.order.specs.Orders.{Order, listwise}

@@ -3,7 +3,7 @@ ghost use Rattle.std.specs.Prelude.{◌≡◌, ◌+◌, ◌<◌, length, refl};
 ghost use Rattle.std.specs.Option.{option_map};
 ghost use Rattle.order.specs.Orders.{Same};
 ghost use Rattle.texts.specs.Tables.{Taken};
-ghost use Rattle.semver.specs.Views.{parts_of as ideal-parts};
+ghost use Rattle.ideals.specs.Views.{parts_of as ideal-parts};
 ghost use Rattle.general.specs.Views.{parts_of as general-parts};
 ghost use Rattle.complex.specs.Order.{complex_order};
 ghost use Rattle.complex.specs.Views.{parts_of as mess-parts};
@@ -16,7 +16,7 @@ use complex::views::MessIn;
 use general::general::VersionIn;
 use mess::sep::Sep;
 use order::{Parts, compare_lists};
-use semver::ideal::IdealIn;
+use ideals::ideal::IdealIn;
 use std::cmp::Ordering;
 use word::Word;
 

@@ -3,12 +3,12 @@ ghost use Rattle.std.specs.Prelude.{◌≡◌, Err};
 ghost use Rattle.parsers.specs.Answers.{new_by};
 ghost use Rattle.standard.specs.Order.{ideal_order};
 ghost use Rattle.standard.specs.Reading.{ideal_of};
-ghost use Rattle.semver.specs.Views.{parts_of};
+ghost use Rattle.ideals.specs.Views.{parts_of};
 ghost use Rattle.job.specs.Verdicts.{verdict_of, refusals, against_of, Judged};
 
 use fault::LabelFault;
-use semver::ideal::IdealIn;
-use semver::semver::SemVer;
+use ideals::ideal::IdealIn;
+use ideals::semver::SemVer;
 use std::cmp::Ordering;
 
 /// The later of two labels.

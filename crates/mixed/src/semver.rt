@@ -1,7 +1,7 @@
 //! Ideals against labels of the other forms.
 ghost use Rattle.std.specs.Prelude.{◌≡◌, drop};
 ghost use Rattle.chunk.specs.Said.{says};
-ghost use Rattle.semver.specs.Views.{parts_of as ideal-parts};
+ghost use Rattle.ideals.specs.Views.{parts_of as ideal-parts};
 ghost use Rattle.general.specs.Order.{era};
 ghost use Rattle.general.specs.Views.{parts_of as general-parts};
 ghost use Rattle.mixed.specs.Generals.{before_chunk, tied, by_patch, by_minor, by_major, ideal_general};
@@ -9,7 +9,7 @@ ghost use Rattle.mixed.specs.Generals.{before_chunk, tied, by_patch, by_minor, b
 use chunk::chunk::Chunk;
 use general::general::VersionIn;
 use general::last::LastIn;
-use semver::ideal::IdealIn;
+use ideals::ideal::IdealIn;
 use std::cmp::Ordering;
 
 /// The epoch of a General, absent counting 0.

@@ -2,14 +2,14 @@
 ghost use Rattle.std.specs.Prelude.{◌≡◌};
 ghost use Rattle.mess.specs.Labels.{parts_in};
 ghost use Rattle.mess.specs.Reading.{nth_of};
-ghost use Rattle.semver.specs.Views.{parts_of as ideal-parts};
+ghost use Rattle.ideals.specs.Views.{parts_of as ideal-parts};
 ghost use Rattle.mixed.specs.Complexes.{lenient_at, converted, by_lenient, by_patch, by_minor, ideal_complex};
 
 use complex::views::MessIn;
 use convert::levels::Levels;
 use lenient::number::lenient_number;
 use mess::mess::Mess;
-use semver::ideal::IdealIn;
+use ideals::ideal::IdealIn;
 use std::cmp::Ordering;
 
 /// The number at a position of a Complex.

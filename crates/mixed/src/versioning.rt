@@ -1,11 +1,11 @@
 //! Labels of any form beside their texts: how every two compare, and which are the same.
 ghost use Rattle.std.specs.Prelude.{◌≡◌, true};
-ghost use Rattle.std.specs.Cmp.{rank as byNumber};
+ghost use Rattle.std.specs.Ordering.{nat_cmp};
 ghost use Rattle.std.specs.Ordering.{is_eq};
 ghost use Rattle.order.specs.Lists.{lex};
 ghost use Rattle.standard.specs.Order.{ideal_order};
 ghost use Rattle.standard.specs.Theorems.{Iff};
-ghost use Rattle.semver.specs.Views.{parts_of as ideal-parts};
+ghost use Rattle.ideals.specs.Views.{parts_of as ideal-parts};
 ghost use Rattle.general.specs.Views.{parts_of as general-parts};
 ghost use Rattle.mess.specs.Labels.{parts_in as complex-parts};
 ghost use Rattle.versioning.specs.First.{ideal as as_ideal, general as as_general, complex as as_complex};
@@ -19,7 +19,7 @@ use complex::views::MessIn;
 use general::general::VersionIn;
 use mess::mess::Mess;
 use order::{ElementOrder, compare_texts};
-use semver::ideal::IdealIn;
+use ideals::ideal::IdealIn;
 use std::cmp::Ordering;
 use versioning::versioning::Versioning;
 
@@ -105,7 +105,7 @@ impl<'a> ElementOrder for VersioningIn<'a> {
 
 /// Whether two texts are the same.
 fn is_same(a: &[u8], b: &[u8]) -> bool
-    ensures { result ≡ is_eq (lex byNumber a.now b.now) }
+    ensures { result ≡ is_eq (lex nat_cmp a.now b.now) }
 {
     compare_texts(a, b).is_eq()
 }

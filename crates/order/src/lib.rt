@@ -2,7 +2,7 @@
 #![tactic(auto)]
 
 ghost use Rattle.std.specs.Prelude.{◌≡◌, ℕ, ◌<◌, List, length, slice_index_or, refl};
-ghost use Rattle.std.specs.Cmp.{rank as byNumber};
+ghost use Rattle.std.specs.Ordering.{nat_cmp};
 ghost use Rattle.order.specs.Laws.{Strict};
 ghost use Rattle.order.specs.Lists.{lex};
 ghost use Rattle.order.specs.Orders.{Order, asks, listwise, bytewise, Same};
@@ -25,7 +25,7 @@ pub trait StrictOrder: ElementOrder {
 
     fn strict()
         ensures law { Strict strictly.answer }
-        ensures tie { Same order strictly };
+        ensures tie { Same Self.order strictly };
 }
 
 /// A list that hands out its parts: how many there are, and the part at an index. What it means is the list `parts`
@@ -137,7 +137,7 @@ impl<'a> Parts for Bytes<'a> {
 
 /// Two texts, by bytes.
 pub fn compare_texts(a: &[u8], b: &[u8]) -> Ordering
-    ensures { result ≡ lex byNumber a.now b.now }
+    ensures { result ≡ lex nat_cmp a.now b.now }
 {
     compare_lists(&Bytes(a), &Bytes(b))
 }

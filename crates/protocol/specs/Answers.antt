@@ -6,7 +6,7 @@ use Rattle.parsers.specs.Answers.{new_by, parsed_by}
 use Rattle.standard.specs.Parts as standard
 use Rattle.standard.specs.Reading.{ideal_of}
 use Rattle.standard.specs.Order.{ideal_order}
-use Rattle.semver.specs.Labels.{parts_in}
+use Rattle.ideals.specs.Labels.{parts_in}
 use Rattle.protocol.specs.declared.asked.Form.{Form}
 use Rattle.protocol.specs.declared.asked.Form.TheVariants.{SemVer}
 use Rattle.protocol.specs.declared.answer.Answer.{Answer}

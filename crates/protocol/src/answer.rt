@@ -1,6 +1,6 @@
 //! What a line is answered.
 use fault::LabelFault;
-use semver::semver::SemVer;
+use ideals::semver::SemVer;
 use std::cmp::Ordering;
 
 /// An answer; the places of its parts are in the text that was read.

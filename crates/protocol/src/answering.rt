@@ -4,8 +4,8 @@ ghost use Rattle.protocol.specs.Answers.{said_in, new_answer, parse_answer, comp
 
 use crate::answer::Answer;
 use crate::asked::Form;
-use semver::ideal::IdealIn;
-use semver::semver::SemVer;
+use ideals::ideal::IdealIn;
+use ideals::semver::SemVer;
 
 /// `new`: the parts of the label that a text is.
 pub fn answer_new(form: Form, text: &[u8]) -> Answer

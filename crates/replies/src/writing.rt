@@ -2,7 +2,7 @@
 ghost use Rattle.std.specs.Prelude.{◌≡◌, ◌++◌, decimal, OnOk};
 ghost use Rattle.chunk.specs.Said.{says};
 ghost use Rattle.chunk.specs.Tables.{view_in};
-ghost use Rattle.semver.specs.Views.{parts_of};
+ghost use Rattle.ideals.specs.Views.{parts_of};
 ghost use Rattle.protocol.specs.Answers.{said_in};
 ghost use Rattle.replies.specs.Written.{piece_text, comma_before, pieces_text, release_text, meta_text, numbers_text, parts_text, read_text, order_name, order_text, fault_text, refusal_text, bad_text, said_text, line_of};
 
@@ -11,7 +11,7 @@ use chunk::release::ReleaseIn;
 use fault::{LabelFault, Layer};
 use order::Parts;
 use protocol::answer::Answer;
-use semver::ideal::IdealIn;
+use ideals::ideal::IdealIn;
 use std::alloc::AllocError;
 use std::cmp::Ordering;
 

@@ -1,7 +1,7 @@
 -- What the code's labels say of their texts. Assumes nothing.
 use Rattle.std.specs.Prelude.{ℕ, zero, suc, List, Some, None, Option}
 use Rattle.standard.specs.Parts as standard
-use Rattle.semver.specs.Labels as semver
+use Rattle.ideals.specs.Labels as semver
 use Rattle.version.specs.Parts as version
 use Rattle.version.specs.Labels as generals
 use Rattle.version.specs.Numbers as numbers

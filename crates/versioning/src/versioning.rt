@@ -13,7 +13,7 @@ ghost use Rattle.versioning.specs.Labels.{parts_in, read_in, ideal_nth, nth_in};
 
 use fault::LabelFault;
 use mess::mess::Mess;
-use semver::semver::SemVer;
+use ideals::semver::SemVer;
 use version::version::Version;
 
 /// A label that was read: its form, and its parts as numbers and places in its text.

@@ -2,7 +2,7 @@
 #![tactic(auto)]
 
 ghost use Rattle.std.specs.Prelude.{◌≡◌, ◌<◌, ◌≤◌, ◌++◌, length, decimal, slice_index_or, refl};
-ghost use Rattle.std.specs.Cmp.{rank as byNumber};
+ghost use Rattle.std.specs.Ordering.{nat_cmp};
 ghost use Rattle.order.specs.Lists.{lex};
 ghost use Rattle.order.specs.Orders.{bytewise, Same};
 ghost use Rattle.word.specs.Words.{written, word_of};
@@ -148,7 +148,7 @@ impl<'a> Parts for Word<'a> {
 
 /// Two Words, as texts by bytes.
 pub fn compare_words<'a, 'b>(a: &Word<'a>, b: &Word<'b>) -> Ordering
-    ensures { result ≡ lex byNumber (word_of a.now) (word_of b.now) }
+    ensures { result ≡ lex nat_cmp (word_of a.now) (word_of b.now) }
 {
     compare_lists(&*a, &*b)
 }

@@ -1,11 +1,11 @@
 //! Writing Ideals.
 ghost use Rattle.std.specs.Prelude.{◌≡◌, ◌++◌, OnOk};
-ghost use Rattle.semver.specs.Views.{parts_of};
+ghost use Rattle.ideals.specs.Views.{parts_of};
 ghost use Rattle.written.specs.Written.{numbers_text, ideal_text};
 
 use crate::chunks::write_tail;
 use crate::number::write_number;
-use semver::ideal::IdealIn;
+use ideals::ideal::IdealIn;
 use std::alloc::AllocError;
 
 fn write_numbers(out: &mut Vec<u8>, major: u32, minor: u32, patch: u32) -> Result<(), AllocError>

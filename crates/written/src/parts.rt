@@ -9,7 +9,7 @@ use crate::ideal::write_ideal;
 use complex::views::MessIn;
 use convert::levels::Levels;
 use general::general::VersionIn;
-use semver::ideal::IdealIn;
+use ideals::ideal::IdealIn;
 use std::alloc::AllocError;
 use versioning::versioning::Versioning;
 

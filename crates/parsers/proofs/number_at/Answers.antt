@@ -5,4 +5,4 @@ pub returns-in-Some : goal.returns-in-Some
 returns-in-Some c = nought _ _ _ c.in-Some.ensures
 
 pub returns-in-None : goal.returns-in-None
-returns-in-None c = no_nought _ _ c.in-None.ensures _ c.digits-at.ensures
+returns-in-None c = no_nought _ _ c.in-None.ensures _ c.digits_at.ensures

@@ -12,8 +12,8 @@ loop-behind-preserved g c =
     subst (Joined g.P.PartReader.part (bytes_of c.args.text) c.args.at c.in-Some-read.after) (sym c.push.ensures)
     (more c.loop-behind.invariant c.args.text.short _ _ _ c.in-Some-mark.ensures c.in-Some-read.ensures)
 
-pub returns-in-default-read : goal.returns-in-default-read
-returns-in-default-read g c = at_dot c.loop-behind.invariant _ c.in-Some-mark.ensures c.in-default-read.ensures
+pub returns-in_default-read : goal.returns-in_default-read
+returns-in_default-read g c = at_dot c.loop-behind.invariant _ c.in-Some-mark.ensures c.in_default-read.ensures
 
-pub returns-in-default-mark : goal.returns-in-default-mark
-returns-in-default-mark g c = at_other c.loop-behind.invariant c.in-default-mark.ensures
+pub returns-in_default-mark : goal.returns-in_default-mark
+returns-in_default-mark g c = at_other c.loop-behind.invariant c.in_default-mark.ensures

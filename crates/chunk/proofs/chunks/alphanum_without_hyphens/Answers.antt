@@ -5,14 +5,14 @@ use Rattle.parsers.specs.Places.{EndOf}
 use Rattle.chunk.proofs.Words.{as_word, digits_only}
 use Rattle.chunk.proofs.chunks.alphanum_without_hyphens.Goals as goal
 
-pub returns-then-stretch-end-end : goal.returns-then-stretch-end-end
-returns-then-stretch-end-end c =
+pub returns-then-stretch_end-end : goal.returns-then-stretch_end-end
+returns-then-stretch_end-end c =
     let g = c.in-Some.ensures in
-    let e = subst (λ t. EndOf is_ascii_digit t c.args.at c.stretch-end.result) c.bytes.ensures c.stretch-end.ensures in
-    (as_word is_ascii_alphabetic g.0 g.1 g.2 e c.if-stretch-end-end.true, g.1, g.2)
+    let e = subst (λ t. EndOf is_ascii_digit t c.args.at c.stretch_end.result) c.bytes.ensures c.stretch_end.ensures in
+    (as_word is_ascii_alphabetic g.0 g.1 g.2 e c.if-stretch_end-end.true, g.1, g.2)
 
-pub returns-else-stretch-end-end : goal.returns-else-stretch-end-end
-returns-else-stretch-end-end c =
+pub returns-else-stretch_end-end : goal.returns-else-stretch_end-end
+returns-else-stretch_end-end c =
     let g = c.in-Some.ensures in
-    let e = subst (λ t. EndOf is_ascii_digit t c.args.at c.stretch-end.result) c.bytes.ensures c.stretch-end.ensures in
-    digits_only is_ascii_alphabetic g.0 g.1 g.2 e (λ b d. grind (arith, nat_tests)) c.if-stretch-end-end.false
+    let e = subst (λ t. EndOf is_ascii_digit t c.args.at c.stretch_end.result) c.bytes.ensures c.stretch_end.ensures in
+    digits_only is_ascii_alphabetic g.0 g.1 g.2 e (λ b d. grind (arith, nat_tests)) c.if-stretch_end-end.false

@@ -5,17 +5,17 @@ use Rattle.lines.proofs.hex.write_pairs.Goals as goal
 pub bounds-hex-i : goal.bounds-hex-i
 bounds-hex-i c = (digit c.args.hex.now c.requires.long _ (omega arith)).0
 
-pub digit-worth-requires : goal.digit-worth-requires
-digit-worth-requires c = (digit c.args.hex.now c.requires.long _ (omega arith)).1
+pub digit_worth-requires : goal.digit_worth-requires
+digit_worth-requires c = (digit c.args.hex.now c.requires.long _ (omega arith)).1
 
 pub bounds-hex-i-in-loop-i : goal.bounds-hex-i-in-loop-i
 bounds-hex-i-in-loop-i c = (digit c.args.hex.now c.requires.long _ (omega arith)).0
 
-pub digit-worth-requires-in-loop-i : goal.digit-worth-requires-in-loop-i
-digit-worth-requires-in-loop-i c = (digit c.args.hex.now c.requires.long _ (omega arith)).1
+pub digit_worth-requires-in-loop-i : goal.digit_worth-requires-in-loop-i
+digit_worth-requires-in-loop-i c = (digit c.args.hex.now c.requires.long _ (omega arith)).1
 
 pub loop-i-preserved : goal.loop-i-preserved
-loop-i-preserved c = write c.loop-i.invariant c.requires.long c.loop-i-test.true (omega arith) c.digit_worth.ensures.worth c.digit-worth-in-loop-i.ensures.worth
+loop-i-preserved c = write c.loop-i.invariant c.requires.long c.loop-i-test.true (omega arith) c.digit_worth.ensures.worth c.digit_worth-in-loop-i.ensures.worth
 
 pub returns : goal.returns
 returns c =

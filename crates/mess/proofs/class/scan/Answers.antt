@@ -6,7 +6,7 @@ pub loop-i-init : goal.loop-i-init
 loop-i-init c = start _ _ _
 
 pub loop-i-preserved : goal.loop-i-preserved
-loop-i-preserved c = further c.loop-i.invariant (omega arith) c.loop-i-test.true c.run-end-end.ensures.fits c.after-class.ensures
+loop-i-preserved c = further c.loop-i.invariant (omega arith) c.loop-i-test.true c.run_end-end.ensures.fits c.after-class.ensures
 
 pub returns : goal.returns
-returns c = record { end = c.run-end-end.ensures; class = classes c.loop-i.invariant c.loop-i-test.false (λ h. omega arith) }
+returns c = record { end = c.run_end-end.ensures; class = classes c.loop-i.invariant c.loop-i-test.false (λ h. omega arith) }

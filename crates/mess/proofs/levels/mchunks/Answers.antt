@@ -13,5 +13,5 @@ returns-else-rest-end-eq46 c = at_other c.requires.short _ c.requires.room c.in-
 pub returns-after-loop-end : goal.returns-after-loop-end
 returns-after-loop-end c = at_end c.requires.short _ c.requires.room c.in-Some.ensures c.push.ensures c.loop-end.invariant c.loop-end-test.false
 
-pub returns-in-default-parse : goal.returns-in-default-parse
-returns-in-default-parse c = at_dot c.requires.short _ c.requires.room c.in-Some.ensures c.push.ensures c.loop-end.invariant c.loop-end-test.true c.if-rest-end-eq46.true c.in-default-parse.ensures
+pub returns-in_default-parse : goal.returns-in_default-parse
+returns-in_default-parse c = at_dot c.requires.short _ c.requires.room c.in-Some.ensures c.push.ensures c.loop-end.invariant c.loop-end-test.true c.if-rest-end-eq46.true c.in_default-parse.ensures

@@ -3,10 +3,10 @@ use Rattle.texts.specs.Texts.{bytes_of}
 use Rattle.parsers.proofs.Lists.{no_mark, behind_mark}
 use Rattle.version.proofs.version.epoch.Goals as goal
 
-pub returns-in-default-mark : goal.returns-in-default-mark
-returns-in-default-mark c =
+pub returns-in_default-mark : goal.returns-in_default-mark
+returns-in_default-mark c =
     let a = c.in-Some.ensures in
-    let n = no_mark (λ rest. Some (c.in-Some.number, rest)) (bytes_of c.args.text) 58 _ c.in-default-mark.ensures in
+    let n = no_mark (λ rest. Some (c.in-Some.number, rest)) (bytes_of c.args.text) 58 _ c.in_default-mark.ensures in
     rw (a.0, n)
 
 pub returns : goal.returns

@@ -6,7 +6,7 @@ use Rattle.general.proofs.general.VersionIn.cmp.Goals as goal
 
 pub returns-in-Equal : goal.returns-in-Equal
 returns-in-Equal c =
-    let a : _ ≡ era (parts_of c.args.self.now) = c.unwrap-or-a.ensures ∙ ap (λ o. unwrap_or o 0) c.epoch.ensures in
-    let b : _ ≡ era (parts_of c.args.other.now) = c.unwrap-or-b.ensures ∙ ap (λ o. unwrap_or o 0) c.epoch-2.ensures in
-    let is = passes (sym a ∙ c.in-Equal.ensures ∙ b) c.cmp-body.ensures in
+    let a : _ ≡ era (parts_of c.args.self.now) = c.unwrap_or-a.ensures ∙ ap (λ o. unwrap_or o 0) c.epoch.ensures in
+    let b : _ ≡ era (parts_of c.args.other.now) = c.unwrap_or-b.ensures ∙ ap (λ o. unwrap_or o 0) c.epoch-2.ensures in
+    let is = passes (sym a ∙ c.in-Equal.ensures ∙ b) c.cmp_body.ensures in
     record { answer = is; epochs = epochs is }

@@ -12,12 +12,12 @@ returns-in-Equal c =
     let p = parts_of c.args.self.now in
     let q = parts_of c.args.shorter.now in
     let n = c.len-count.ensures.count ∙ ap length c.chunks.ensures in
-    let next = c.as-last-next.ensures ∙ ap (λ n. last_of (chunk_at p.chunks n)) n in
+    let next = c.as_last-next.ensures ∙ ap (λ n. last_of (chunk_at p.chunks n)) n in
     passes (uncut p.chunks q.chunks _ n c.in-Equal.ensures)
     (c.then.ensures ∙ ap (λ o. ordering_then o Greater) (c.cmp.ensures ∙ (λ i. last_order (next i) (c.last.ensures i))))
 
-pub returns-in-default : goal.returns-in-default
-returns-in-default c =
+pub returns-in_default : goal.returns-in_default
+returns-in_default c =
     let p = parts_of c.args.self.now in
     let q = parts_of c.args.shorter.now in
-    decides _ (uncut p.chunks q.chunks _ (c.len-count.ensures.count ∙ ap length c.chunks.ensures) c.cmp-chunks.ensures) c.in-default.not-Equal
+    decides _ (uncut p.chunks q.chunks _ (c.len-count.ensures.count ∙ ap length c.chunks.ensures) c.cmp_chunks.ensures) c.in_default.not-Equal

@@ -1,6 +1,6 @@
 //! Ideal labels beside their texts: their parts, their order, tilde and caret.
 ghost use Rattle.std.specs.Prelude.{◌≡◌, true};
-ghost use Rattle.std.specs.Cmp.{rank as byNumber};
+ghost use Rattle.std.specs.Ordering.{nat_cmp};
 ghost use Rattle.std.specs.Option.{option_map};
 ghost use Rattle.std.specs.Ordering.{ordering_then};
 ghost use Rattle.order.specs.Laws.{Strict};
@@ -8,8 +8,8 @@ ghost use Rattle.order.specs.Orders.{Same};
 ghost use Rattle.chunk.specs.Tables.{view_in};
 ghost use Rattle.standard.specs.Order.{ideal_order, release_order};
 ghost use Rattle.standard.specs.Theorems.{Standard, Iff};
-ghost use Rattle.semver.specs.Ranges.{Tilde, Caret};
-ghost use Rattle.semver.specs.Views.{parts_of, ideally, Agreement};
+ghost use Rattle.ideals.specs.Ranges.{Tilde, Caret};
+ghost use Rattle.ideals.specs.Views.{parts_of, ideally, Agreement};
 
 use crate::semver::SemVer;
 use chunk::release::{ReleaseIn, compare_releases};

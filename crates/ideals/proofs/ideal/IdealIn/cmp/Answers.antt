@@ -1,6 +1,6 @@
-use Rattle.semver.specs.Views.{parts_of}
-use Rattle.semver.proofs.Comparing.{level, decided, standard, agreement}
-use Rattle.semver.proofs.ideal.IdealIn.cmp.Goals as goal
+use Rattle.ideals.specs.Views.{parts_of}
+use Rattle.ideals.proofs.Comparing.{level, decided, standard, agreement}
+use Rattle.ideals.proofs.ideal.IdealIn.cmp.Goals as goal
 
 pub returns-in-Equal : goal.returns-in-Equal
 returns-in-Equal c =

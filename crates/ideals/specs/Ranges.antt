@@ -1,6 +1,6 @@
 -- Which Ideals a tilde and a caret rule fit. Assumes nothing.
 use Rattle.std.specs.Prelude.{◌≡◌, ℕ, ◌<◌, ◌≤◌, ◌⊎◌}
-use Rattle.semver.specs.declared.semver.SemVer.{SemVer}
+use Rattle.ideals.specs.declared.semver.SemVer.{SemVer}
 
 -- the label has the rule's major and minor, and a patch that is not lower
 pub record Tilde (rule label : SemVer) : Type 0 where

@@ -2,7 +2,7 @@ use Rattle.std.proofs.Common.{refl, ◌∙◌, arith}
 use Rattle.parsers.specs.Reading.{number_of}
 use Rattle.texts.specs.Texts.{bytes_of}
 use Rattle.parsers.proofs.Lists.{no_mark, behind_mark}
-use Rattle.semver.proofs.semver.SemVer.read.Goals as goal
+use Rattle.ideals.proofs.semver.SemVer.read.Goals as goal
 
 pub returns-in-default-mark : goal.returns-in-default-mark
 returns-in-default-mark c =

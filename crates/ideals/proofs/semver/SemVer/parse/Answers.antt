@@ -2,8 +2,8 @@ use Rattle.std.proofs.Common.{Some, None, subst}
 use Rattle.parsers.specs.Places.{Gives}
 use Rattle.parsers.proofs.Answering.{clipped_whole, read_front, read_none}
 use Rattle.standard.specs.Reading.{ideal_of}
-use Rattle.semver.specs.Labels.{parts_in}
-use Rattle.semver.proofs.semver.SemVer.parse.Goals as goal
+use Rattle.ideals.specs.Labels.{parts_in}
+use Rattle.ideals.proofs.semver.SemVer.parse.Goals as goal
 
 pub returns-in-Some : goal.returns-in-Some
 returns-in-Some c =

@@ -6,7 +6,7 @@ use Rattle.standard.specs.Parts.{Parts}
 use Rattle.standard.specs.Reading.{ideal_of}
 use Rattle.standard.specs.Theorems.{Ideal}
 use Rattle.standard.proofs.Readings.{reading_stands}
-use Rattle.semver.proofs.semver.SemVer.new.Goals as goal
+use Rattle.ideals.proofs.semver.SemVer.new.Goals as goal
 
 -- what the definition answers reads the standard
 standard : (text : List ℕ) (r : Result Parts LabelFault) → r ≡ new_by ideal_of text → NewReads Ideal text r

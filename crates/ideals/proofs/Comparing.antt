@@ -7,7 +7,7 @@ use Rattle.standard.specs.Order.{release_order, ideal_order}
 use Rattle.standard.specs.Theorems.{Standard}
 use Rattle.standard.proofs.Precedences.{precedence_stands}
 use Rattle.standard.proofs.Agreements.{agreement_stands}
-use Rattle.semver.specs.Views.{Agreement}
+use Rattle.ideals.specs.Views.{Agreement}
 
 assoc : (a b c : Ordering) → ordering_then (ordering_then a b) c ≡ ordering_then a (ordering_then b c)
 assoc Less b c = refl

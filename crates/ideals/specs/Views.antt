@@ -7,9 +7,9 @@ use Rattle.standard.specs.Parts.{Parts}
 use Rattle.standard.specs.Order.{ideal_order}
 use Rattle.standard.specs.Theorems.{Ideal, Iff, before_plus}
 use Rattle.standard.proofs.Stricts.{strict_stands}
-use Rattle.semver.specs.declared.semver.SemVer.{SemVer}
-use Rattle.semver.specs.declared.ideal.IdealIn.{IdealIn}
-use Rattle.semver.specs.Labels.{parts_in}
+use Rattle.ideals.specs.declared.semver.SemVer.{SemVer}
+use Rattle.ideals.specs.declared.ideal.IdealIn.{IdealIn}
+use Rattle.ideals.specs.Labels.{parts_in}
 
 abbrev pub parts_of : IdealIn → Parts
 parts_of x = parts_in x.text.now x.semver.now

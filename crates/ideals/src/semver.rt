@@ -6,7 +6,7 @@ ghost use Rattle.parsers.specs.Places.{Gives};
 ghost use Rattle.texts.specs.Texts.{bytes_of};
 ghost use Rattle.standard.specs.Reading.{ideal_of};
 ghost use Rattle.standard.specs.Theorems.{Ideal as StandardIdeal};
-ghost use Rattle.semver.specs.Labels.{parts_in, read_in};
+ghost use Rattle.ideals.specs.Labels.{parts_in, read_in};
 
 use chunk::perhaps::{perhaps_meta, perhaps_release};
 use chunk::release::Release;

@@ -4,7 +4,7 @@ use Rattle.std.specs.Option.{option_map}
 use Rattle.texts.specs.Tables.{bytes_in}
 use Rattle.chunk.specs.Tables.{release_in}
 use Rattle.standard.specs.Parts.{Parts}
-use Rattle.semver.specs.declared.semver.SemVer.{SemVer}
+use Rattle.ideals.specs.declared.semver.SemVer.{SemVer}
 
 -- the parts, with their text
 abbrev pub parts_in : List ℕ → SemVer → Parts
