@@ -1,7 +1,7 @@
 -- How the order of Generals is put together. Assumes nothing.
 use Rattle.std.proofs.Common.{◌≡◌, ℕ, ◌<◌, List, length, take, Ordering, Less, Equal, Greater, sym, refl, ap, ◌∙◌, subst, arith}
-use Rattle.std.specs.Cmp.{nat_cmp_total}
-use Rattle.std.specs.Ordering.{ordering_then, MatchOrdering, nat_cmp}
+use Rattle.std.specs.Cmp.{nat_cmp_is}
+use Rattle.std.specs.Ordering.{ordering_then, nat_cmp}
 use Rattle.std.proofs.lemmas.List.{take_all}
 use Rattle.order.specs.Lists.{lex}
 use Rattle.texts.specs.Piece.{Piece}
@@ -27,16 +27,12 @@ uncut xs ys n e is = is ∙ (λ i. lex lenient_order (take (e i) xs) (take_all n
 pub level : (xs ys : List Piece) (n : ℕ) {o : Ordering} → n ≡ length xs → length xs ≡ length ys → o ≡ lex lenient_order (take n xs) (take n ys) → o ≡ lex lenient_order xs ys
 level xs ys n e f is = is ∙ (λ i. lex lenient_order (take_all n xs (omega arith) i) (take_all n ys (omega arith) i))
 
--- what `cmp` of two numbers answers
-abbrev Compared : Ordering → ℕ → ℕ → Type 0
-Compared o x y = MatchOrdering o (x < y) (x ≡ y) (y < x)
-
 -- the counts of chunks compare as o says
-pub by_count : (p q : Parts) (o : Ordering) {m n : ℕ} → m ≡ length p.chunks → n ≡ length q.chunks → Compared o m n → sized o p q ≡ body_order p q
-by_count p q o {m} {n} u v c = ap (λ o. sized o p q) ((nat_cmp_total.says m n o c) ∙ (λ i. nat_cmp (u i) (v i)))
+pub by_count : (p q : Parts) (o : Ordering) {m n : ℕ} → m ≡ length p.chunks → n ≡ length q.chunks → o ≡ nat_cmp m n → sized o p q ≡ body_order p q
+by_count p q o {m} {n} u v c = ap (λ o. sized o p q) (c ∙ (λ i. nat_cmp (u i) (v i)))
 
 -- the one with the higher epoch is Greater
 pub epochs : {p q : Parts} {o : Ordering} → o ≡ general_order p q → HigherEpoch p q o
 epochs {p} {q} e =
     let by : (r : Ordering) → r ≡ nat_cmp (era p) (era q) → general_order p q ≡ ordering_then r (body_order p q) = λ r i. ap (λ r. ordering_then r (body_order p q)) (sym i) in
-    record { higher = λ h. e ∙ by Greater (nat_cmp_total.says (era p) (era q) Greater h); lower = λ h. e ∙ by Less (nat_cmp_total.says (era p) (era q) Less h) }
+    record { higher = λ h. e ∙ by Greater (nat_cmp_is (era p) (era q) Greater h); lower = λ h. e ∙ by Less (nat_cmp_is (era p) (era q) Less h) }

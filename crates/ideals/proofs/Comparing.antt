@@ -1,7 +1,6 @@
 -- How the order of Ideals is put together. Assumes nothing.
 use Rattle.std.proofs.Common.{◌≡◌, ℕ, ◌<◌, List, Ordering, Less, Equal, Greater, sym, refl, ap, ◌∙◌, subst}
-use Rattle.std.specs.Cmp.{nat_cmp_total}
-use Rattle.std.specs.Ordering.{ordering_then, MatchOrdering, nat_cmp}
+use Rattle.std.specs.Ordering.{ordering_then, nat_cmp}
 use Rattle.standard.specs.Parts.{Parts}
 use Rattle.standard.specs.Order.{release_order, ideal_order}
 use Rattle.standard.specs.Theorems.{Standard}
@@ -20,16 +19,12 @@ stands Less p n = refl
 stands Equal p n = absurd (n refl)
 stands Greater p n = refl
 
--- what `cmp` of two numbers answers
-abbrev Compared : Ordering → ℕ → ℕ → Type 0
-Compared o x y = MatchOrdering o (x < y) (x ≡ y) (y < x)
-
-module _ (p q : Parts) (major minor patch : Ordering) {behind numbers : Ordering} (M : Compared major p.major q.major) (m : Compared minor p.minor q.minor) (k : Compared patch p.patch q.patch)
+module _ (p q : Parts) (major minor patch : Ordering) {behind numbers : Ordering} (M : major ≡ nat_cmp p.major q.major) (m : minor ≡ nat_cmp p.minor q.minor) (k : patch ≡ nat_cmp p.patch q.patch)
     (b : behind ≡ ordering_then minor patch) (n : numbers ≡ ordering_then major behind) where
   joined : ordering_then numbers (release_order p.release q.release) ≡ ideal_order p q
   joined =
       let r = release_order p.release q.release in
-      let i : numbers ≡ ordering_then (nat_cmp p.major q.major) (ordering_then (nat_cmp p.minor q.minor) (nat_cmp p.patch q.patch)) = rw (n, b, (nat_cmp_total.says p.major q.major major M), (nat_cmp_total.says p.minor q.minor minor m), (nat_cmp_total.says p.patch q.patch patch k)) refl in
+      let i : numbers ≡ ordering_then (nat_cmp p.major q.major) (ordering_then (nat_cmp p.minor q.minor) (nat_cmp p.patch q.patch)) = rw (n, b, M, m, k) refl in
       ap (λ o. ordering_then o r) i ∙ assoc (nat_cmp p.major q.major) (ordering_then (nat_cmp p.minor q.minor) (nat_cmp p.patch q.patch)) r
       ∙ ap (ordering_then (nat_cmp p.major q.major)) (assoc (nat_cmp p.minor q.minor) (nat_cmp p.patch q.patch) r)
 

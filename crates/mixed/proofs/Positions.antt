@@ -1,6 +1,6 @@
 -- A General and a Complex that meet position by position. Assumes nothing.
 use Rattle.std.proofs.Common.{◌≡◌, ℕ, zero, suc, ◌+◌, ◌-◌, ◌<◌, ◌≤◌, List, [], ◌∷◌, length, Some, None, Option, Ordering, Less, Equal, Greater, sym, refl, ap, ◌∙◌, subst, arith}
-use Rattle.std.specs.Cmp.{nat_cmp_total}
+use Rattle.std.specs.Cmp.{nat_cmp_is}
 use Rattle.std.specs.Ordering.{ordering_then, MatchOrdering, nat_cmp}
 use Rattle.version.specs.Parts as version
 use Rattle.version.specs.Numbers as general
@@ -72,5 +72,5 @@ positions_behind g m rest e converted h b = same_numbers g m rest converted (num
 -- the epochs are the same, and the levels behind the colon decide
 pub epoch_tie : (g : version.Parts) (m rest : mess.Parts) (e : ℕ) (r : Ordering) → Some e ≡ epoch_like m → Some rest ≡ behind_first m → era g ≡ e → r ≡ by_positions g m (complex_order (body_to_mess g) rest) → r ≡ by_epoch g (epoch_like m) (behind_first m)
 epoch_tie g m rest e r h b i p =
-    let s : nat_cmp (era g) e ≡ Equal = sym (nat_cmp_total.says (era g) e Equal i) in
+    let s : nat_cmp (era g) e ≡ Equal = sym (nat_cmp_is (era g) e Equal i) in
     p ∙ positions_behind g m rest e _ h b ∙ ap (λ q. ordering_then q (by_positions g rest (complex_order (body_to_mess g) rest))) (sym s) ∙ (λ j. by_epoch g (h j) (b j))

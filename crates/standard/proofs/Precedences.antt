@@ -1,6 +1,6 @@
 -- The order of Ideals is the standard's precedence. Assumes nothing.
 use Rattle.std.proofs.Common.{◌≡◌, ℕ, ◌<◌, ◌⊎◌, List, Some, None, Option, Ordering, Less, Equal, sym, refl, ap, ◌∙◌, inl, inr, ⊎_elim, arith}
-use Rattle.std.specs.Cmp.{ranks, nat_cmp_total, means, below_irrefl, below_chain}
+use Rattle.std.specs.Cmp.{ranks, nat_cmp_is, means, below_irrefl, below_chain}
 use Rattle.std.specs.Ordering.{ordering_index, ordering_reverse, ordering_then, MatchOrdering, nat_cmp}
 use Rattle.order.specs.Lists.{lex}
 use Rattle.order.specs.Numbers.{number_strict}
@@ -21,10 +21,10 @@ number_equal : (m n : ℕ) → nat_cmp m n ≡ Equal → m ≡ n
 number_equal m n = ranked m n Equal
 
 less_number : (m n : ℕ) → m < n → nat_cmp m n ≡ Less
-less_number m n h = sym (nat_cmp_total.says m n Less h)
+less_number m n h = sym (nat_cmp_is m n Less h)
 
 equal_number : (m n : ℕ) → m ≡ n → nat_cmp m n ≡ Equal
-equal_number m n h = sym (nat_cmp_total.says m n Equal h)
+equal_number m n h = sym (nat_cmp_is m n Equal h)
 
 -- texts
 text_less : (s t : List ℕ) → lex nat_cmp s t ≡ Less → TextLower s t

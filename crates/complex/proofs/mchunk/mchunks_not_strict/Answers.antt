@@ -5,5 +5,5 @@ use Rattle.complex.proofs.mchunk.mchunks_not_strict.Goals as goal
 pub returns : goal.returns
 returns c = record {
   ring = record { nine = refl; ten = refl; back = refl };
-  not-strict = λ s. s.carried (digits 9 (codes "9")) (digits 10 (codes "10")) (plain (codes "1a")) tt tt;
+  not_strict = λ s. s.carried (digits 9 (codes "9")) (digits 10 (codes "10")) (plain (codes "1a")) tt tt;
 }

@@ -6,5 +6,5 @@ none : (line : List ℕ) → length line < 1 → line ≡ without_return line
 none [] h = refl
 none (b ∷ bs) h = absurd (omega arith)
 
-pub returns-in-default : goal.returns-in-default
-returns-in-default c = none _ (omega (arith, ltb-true))
+pub returns-in_default : goal.returns-in_default
+returns-in_default c = none _ (omega (arith, ltb-true))

@@ -4,20 +4,20 @@ use Rattle.general.specs.Views.{parts_of}
 use Rattle.mixed.proofs.Positions.{all_met, none_here, none_there, decides, goes_on}
 use Rattle.mixed.proofs.version.cmp_positions.Goals as goal
 
-pub returns-in-default : goal.returns-in-default
-returns-in-default c =
+pub returns-in_default : goal.returns-in_default
+returns-in_default c =
     none_here (parts_of c.args.general.now) (parts_in c.args.text.now c.args.mess.now) _ c.loop-n.n c.loop-n.invariant (omega (arith, c.len-count.ensures.count, ap length c.chunks.ensures))
-    (c.in-default.ensures c.args.general.now.text.now) c.cmp.ensures
+    (c.in_default.ensures c.args.general.now.text.now) c.cmp.ensures
 
-pub returns-in-default-nth : goal.returns-in-default-nth
-returns-in-default-nth c =
+pub returns-in_default-nth : goal.returns-in_default-nth
+returns-in_default-nth c =
     none_there (parts_of c.args.general.now) (parts_in c.args.text.now c.args.mess.now) _ c.loop-n.n c.loop-n.invariant (omega (arith, c.len-count.ensures.count, ap length c.chunks.ensures))
-    (c.in-Some.ensures c.args.general.now.text.now) (c.in-default-nth.ensures c.args.text.now) c.cmp-in-default-nth.ensures
+    (c.in-Some.ensures c.args.general.now.text.now) (c.in_default-nth.ensures c.args.text.now) c.cmp-in_default-nth.ensures
 
-pub returns-in-default-cmp : goal.returns-in-default-cmp
-returns-in-default-cmp c =
+pub returns-in_default-cmp : goal.returns-in_default-cmp
+returns-in_default-cmp c =
     decides (parts_of c.args.general.now) (parts_in c.args.text.now c.args.mess.now) _ c.loop-n.n c.loop-n.invariant (omega (arith, c.len-count.ensures.count, ap length c.chunks.ensures))
-    (c.in-Some.ensures c.args.general.now.text.now) (c.in-Some-nth.ensures c.args.text.now) c.cmp-in-loop-n.ensures c.in-default-cmp.not-Equal
+    (c.in-Some.ensures c.args.general.now.text.now) (c.in-Some-nth.ensures c.args.text.now) c.cmp-in-loop-n.ensures c.in_default-cmp.not-Equal
 
 pub loop-n-preserved : goal.loop-n-preserved
 loop-n-preserved c =

@@ -4,8 +4,8 @@ use Rattle.written.specs.Written.{piece_text}
 use Rattle.written.proofs.Listing.{more_taken, all}
 use Rattle.written.proofs.chunks.write_chunks.Goals as goal
 
-pub returns-in-default : goal.returns-in-default
-returns-in-default c = all piece_text (listed_in c.args.chunks) (vec_items c.args.out.now) _ _ c.loop-i.invariant c.in-default.ensures
+pub returns-in_default : goal.returns-in_default
+returns-in_default c = all piece_text (listed_in c.args.chunks) (vec_items c.args.out.now) _ _ c.loop-i.invariant c.in_default.ensures
 
 pub loop-i-preserved : goal.loop-i-preserved
 loop-i-preserved c = more_taken piece_text (listed_in c.args.chunks) (vec_items c.args.out.now) _ _ c.loop-i.invariant {mid = vec_items c.write-comma.new.out} c.in-ok-write-comma.ensures c.in-Some.ensures c.in-ok-write-chunk.ensures

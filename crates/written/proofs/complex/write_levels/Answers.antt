@@ -4,8 +4,8 @@ use Rattle.written.specs.Written.{further_text}
 use Rattle.written.proofs.Joining.{more_taken, all}
 use Rattle.written.proofs.complex.write_levels.Goals as goal
 
-pub returns-in-default : goal.returns-in-default
-returns-in-default c = all further_text (mess_said c.args.complex).further (vec_items c.args.out.now) _ _ c.loop-i.invariant c.in-default.ensures
+pub returns-in_default : goal.returns-in_default
+returns-in_default c = all further_text (mess_said c.args.complex).further (vec_items c.args.out.now) _ _ c.loop-i.invariant c.in_default.ensures
 
 pub loop-i-preserved : goal.loop-i-preserved
 loop-i-preserved c = more_taken further_text (mess_said c.args.complex).further (vec_items c.args.out.now) _ _ c.loop-i.invariant c.in-Some.ensures c.in-ok-write-further.ensures

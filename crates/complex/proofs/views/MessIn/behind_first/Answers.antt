@@ -4,8 +4,8 @@ use Rattle.mess.specs.Labels.{mchunks_in}
 use Rattle.complex.proofs.Fronts.{one_on, none_on}
 use Rattle.complex.proofs.views.MessIn.behind_first.Goals as goal
 
-pub overflow-add-result : goal.overflow-add-result
-overflow-add-result c = omega (arith, c.in-Some.ensures.few refl)
+pub overflow_add-result : goal.overflow_add-result
+overflow_add-result c = omega (arith, c.in-Some.ensures.few refl)
 
 pub returns-in-Some : goal.returns-in-Some
 returns-in-Some c =

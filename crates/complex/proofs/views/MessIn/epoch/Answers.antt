@@ -9,7 +9,7 @@ returns-in-Colon c =
     let p = parts_of c.args.self.now in
     c.alone.ensures ∙ ap alone c.first.ensures ∙ colon_first (alone p.first) p.further _ c.in-Some.ensures c.in-Colon.is
 
-pub returns-in-default-sep : goal.returns-in-default-sep
-returns-in-default-sep c =
+pub returns-in_default-sep : goal.returns-in_default-sep
+returns-in_default-sep c =
     let p = parts_of c.args.self.now in
-    other_first (alone p.first) p.further _ c.in-Some.ensures c.in-default-sep.not-Colon
+    other_first (alone p.first) p.further _ c.in-Some.ensures c.in_default-sep.not-Colon

@@ -11,6 +11,6 @@ returns c =
     let ls = rows_of m.levels in
     let n = further_count (mchunks_in x.text.now m.chunks) x.begin (drop x.next ls) in
     record {
-      count = omega (arith, n, length-drop x.next ls, length-take m.levels.count m.levels.rows, c.len.ensures.count, c.saturating-sub.ensures);
-      few = omega (arith, c.len.ensures.few, c.saturating-sub.ensures);
+      count = omega (arith, n, length-drop x.next ls, length-take m.levels.count m.levels.rows, c.len.ensures.count, c.saturating_sub.ensures);
+      few = omega (arith, c.len.ensures.few, c.saturating_sub.ensures);
     }

@@ -5,13 +5,13 @@ use Rattle.mess.proofs.Handing.{mchunks_few}
 use Rattle.complex.proofs.Handing.{level_fits, a_level, no_level}
 use Rattle.complex.proofs.views.MessIn.level.Goals as goal
 
-pub overflow-add-self : goal.overflow-add-self
-overflow-add-self c =
+pub overflow_add-self : goal.overflow_add-self
+overflow_add-self c =
     let x = c.args.self.now in
     omega (arith, level_fits (rows_of x.mess.now.levels) x.next c.len-count.result c.args.i c.in-Some.level c.in-Some.ensures, c.len-count.ensures.few)
 
-pub overflow-add-self-in-Some : goal.overflow-add-self-in-Some
-overflow-add-self-in-Some c =
+pub overflow_add-self-in-Some : goal.overflow_add-self-in-Some
+overflow_add-self-in-Some c =
     let x = c.args.self.now in
     omega (arith, level_fits (rows_of x.mess.now.levels) x.next c.len-count.result c.args.i c.in-Some.level c.in-Some.ensures, c.len-count.ensures.few)
 

@@ -1,11 +1,12 @@
 use Rattle.std.proofs.Common.{length, Less, Equal, Greater, sym, ap, ◌∙◌}
+use Rattle.std.specs.Cmp.{ranked}
 use Rattle.std.specs.Ordering.{ordering_reverse}
 use Rattle.general.specs.Views.{parts_of}
 use Rattle.general.proofs.Comparing.{by_count}
 use Rattle.general.proofs.general.VersionIn.cmp_body.Goals as goal
 
 pub cmp_level-requires : goal.cmp_level-requires
-cmp_level-requires c = sym (c.len.ensures.count ∙ ap length c.chunks.ensures) ∙ c.in-Equal.ensures ∙ (c.len-2.ensures.count ∙ ap length c.chunks-2.ensures)
+cmp_level-requires c = sym (c.len.ensures.count ∙ ap length c.chunks.ensures) ∙ ranked _ _ Equal c.in-Equal.ensures ∙ (c.len-2.ensures.count ∙ ap length c.chunks-2.ensures)
 
 pub returns-in-Equal : goal.returns-in-Equal
 returns-in-Equal c =
