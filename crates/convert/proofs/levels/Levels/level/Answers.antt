@@ -6,4 +6,4 @@ use Rattle.convert.proofs.levels.Levels.level.Goals as goal
 
 pub returns-in-General : goal.returns-in-General
 returns-in-General c =
-    subst (λ x. Taken (mess_said x).further c.args.i (option_map signed_said c.general-level.result)) (sym c.in-General.is) c.general-level.ensures
+    subst (λ x. Taken (mess_said x).further c.args.i (option_map signed_said c.general_level.result)) (sym c.in-General.is) c.general_level.ensures
