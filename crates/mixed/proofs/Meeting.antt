@@ -1,17 +1,15 @@
 -- Numbers that meet. Assumes nothing.
 use Rattle.std.proofs.Common.{◌≡◌, ℕ, suc, ◌<◌, List, [], ◌∷◌, length, get_or, drop, Some, None, Option, Ordering, Less, Equal, Greater, sym, refl, ap, ◌∙◌, le_of_suc-le-suc, not-suc-le-zero, arith}
-use Rattle.std.specs.Cmp.{nat_cmp_is}
-use Rattle.std.specs.Ordering.{ordering_then, MatchOrdering, nat_cmp}
+use Rattle.std.specs.Ordering.{ordering_then, nat_cmp}
 use Rattle.texts.specs.Piece.{Piece}
 use Rattle.texts.specs.Tables.{Taken}
 use Rattle.version.specs.Parts.{LastPart}
 use Rattle.mixed.specs.Generals.{meets, before_chunk, tied}
 
 -- on a tie the second answer counts
-pub tie : (n m : ℕ) (o : Option ℕ) (absent r t : Ordering) → Some m ≡ o → n ≡ m → r ≡ t → r ≡ meets n o absent t
+pub tie : (n m : ℕ) (o : Option ℕ) (absent r t : Ordering) → Some m ≡ o → Equal ≡ nat_cmp n m → r ≡ t → r ≡ meets n o absent t
 tie n m o absent r t e i h =
-    let s : nat_cmp n m ≡ Equal = sym (nat_cmp_is n m Equal i) in
-    h ∙ ap (λ q. ordering_then q t) (sym s) ∙ ap (λ o. meets n o absent t) e
+    h ∙ ap (λ q. ordering_then q t) i ∙ ap (λ o. meets n o absent t) e
 
 -- an answer that is not Equal stands
 stands : (o p : Ordering) → (o ≡ Equal → ⊥) → o ≡ ordering_then o p
@@ -20,8 +18,8 @@ stands Equal p n = absurd (n refl)
 stands Greater p n = refl
 
 -- the two numbers decide
-pub decided : (n m : ℕ) (o : Option ℕ) (absent r t : Ordering) → Some m ≡ o → MatchOrdering r (n < m) (n ≡ m) (m < n) → (r ≡ Equal → ⊥) → r ≡ meets n o absent t
-decided n m o absent r t e h d = stands r t d ∙ ap (λ q. ordering_then q t) (nat_cmp_is n m r h) ∙ ap (λ o. meets n o absent t) e
+pub decided : (n m : ℕ) (o : Option ℕ) (absent r t : Ordering) → Some m ≡ o → r ≡ nat_cmp n m → (r ≡ Equal → ⊥) → r ≡ meets n o absent t
+decided n m o absent r t e h d = stands r t d ∙ ap (λ q. ordering_then q t) h ∙ ap (λ o. meets n o absent t) e
 
 -- there is no number to meet
 pub unmet : (n : ℕ) (o : Option ℕ) (absent r t : Ordering) → None ≡ o → r ≡ absent → r ≡ meets n o absent t

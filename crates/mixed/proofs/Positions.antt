@@ -1,7 +1,6 @@
 -- A General and a Complex that meet position by position. Assumes nothing.
 use Rattle.std.proofs.Common.{◌≡◌, ℕ, zero, suc, ◌+◌, ◌-◌, ◌<◌, ◌≤◌, List, [], ◌∷◌, length, Some, None, Option, Ordering, Less, Equal, Greater, sym, refl, ap, ◌∙◌, subst, arith}
-use Rattle.std.specs.Cmp.{nat_cmp_is}
-use Rattle.std.specs.Ordering.{ordering_then, MatchOrdering, nat_cmp}
+use Rattle.std.specs.Ordering.{ordering_then, nat_cmp}
 use Rattle.version.specs.Parts as version
 use Rattle.version.specs.Numbers as general
 use Rattle.mess.specs.declared.sep.Sep.{Sep}
@@ -44,10 +43,10 @@ module _ (g : version.Parts) (m : mess.Parts) (converted : Ordering) where
         pub none_there : None ≡ complex.nth_of n m → {r : Ordering} → r ≡ converted → r ≡ by_positions g m converted
         none_there e i = unmet a _ converted _ _ e i ∙ met
 
-        pub decides : {b : ℕ} {r : Ordering} → Some b ≡ complex.nth_of n m → MatchOrdering r (a < b) (a ≡ b) (b < a) → (r ≡ Equal → ⊥) → r ≡ by_positions g m converted
+        pub decides : {b : ℕ} {r : Ordering} → Some b ≡ complex.nth_of n m → r ≡ nat_cmp a b → (r ≡ Equal → ⊥) → r ≡ by_positions g m converted
         decides e h d = decided a _ _ converted _ _ e h d ∙ met
 
-        pub goes_on : {b : ℕ} → Some b ≡ complex.nth_of n m → a ≡ b → by_positions g m converted ≡ meet_from g m converted (n + 1) (left (n + 1))
+        pub goes_on : {b : ℕ} → Some b ≡ complex.nth_of n m → Equal ≡ nat_cmp a b → by_positions g m converted ≡ meet_from g m converted (n + 1) (left (n + 1))
         goes_on e i =
             let z : left n - 1 ≡ left (n + 1) = omega arith in
             sym (tie a _ _ converted _ _ e i refl ∙ met) ∙ ap (meet_from g m converted (n + 1)) z
@@ -70,7 +69,6 @@ pub positions_behind : (g : version.Parts) (m rest : mess.Parts) (e : ℕ) (conv
 positions_behind g m rest e converted h b = same_numbers g m rest converted (numbers_behind m.first m.further e rest h b) 0 (length g.chunks + 1)
 
 -- the epochs are the same, and the levels behind the colon decide
-pub epoch_tie : (g : version.Parts) (m rest : mess.Parts) (e : ℕ) (r : Ordering) → Some e ≡ epoch_like m → Some rest ≡ behind_first m → era g ≡ e → r ≡ by_positions g m (complex_order (body_to_mess g) rest) → r ≡ by_epoch g (epoch_like m) (behind_first m)
+pub epoch_tie : (g : version.Parts) (m rest : mess.Parts) (e : ℕ) (r : Ordering) → Some e ≡ epoch_like m → Some rest ≡ behind_first m → Equal ≡ nat_cmp (era g) e → r ≡ by_positions g m (complex_order (body_to_mess g) rest) → r ≡ by_epoch g (epoch_like m) (behind_first m)
 epoch_tie g m rest e r h b i p =
-    let s : nat_cmp (era g) e ≡ Equal = sym (nat_cmp_is (era g) e Equal i) in
-    p ∙ positions_behind g m rest e _ h b ∙ ap (λ q. ordering_then q (by_positions g rest (complex_order (body_to_mess g) rest))) (sym s) ∙ (λ j. by_epoch g (h j) (b j))
+    p ∙ positions_behind g m rest e _ h b ∙ ap (λ q. ordering_then q (by_positions g rest (complex_order (body_to_mess g) rest))) i ∙ (λ j. by_epoch g (h j) (b j))

@@ -8,7 +8,7 @@ use Rattle.written.proofs.chunks.write_identifiers.Goals as goal
 pub loop-i-preserved : goal.loop-i-preserved
 loop-i-preserved c =
     let n = said_counted release_part c.args.release.text.now c.args.release.release.now.chunks in
-    more piece_text (view_in c.args.release) (vec_items c.args.out.now) _ _ c.loop-i.invariant {mid = vec_items c.write-comma.new.out} c.in-ok-write-comma.ensures (omega arith) c.part.ensures c.in-ok-write-chunk.ensures
+    more piece_text (view_in c.args.release) (vec_items c.args.out.now) _ _ c.loop-i.invariant {mid = vec_items c.write_comma.new.out} c.in_ok-write_comma.ensures (omega arith) c.part.ensures c.in_ok-write_chunk.ensures
 
 pub returns : goal.returns
 returns c =

@@ -6,7 +6,7 @@ use Rattle.written.proofs.complex.write_level.Goals as goal
 
 pub loop-i-preserved : goal.loop-i-preserved
 loop-i-preserved c =
-    more mchunk_text (level_said c.args.level) (vec_items c.args.out.now) _ _ c.loop-i.invariant {mid = vec_items c.write-comma.new.out} c.in-ok-write-comma.ensures (omega arith) c.part.ensures c.in-ok-write-mchunk.ensures
+    more mchunk_text (level_said c.args.level) (vec_items c.args.out.now) _ _ c.loop-i.invariant {mid = vec_items c.write_comma.new.out} c.in_ok-write_comma.ensures (omega arith) c.part.ensures c.in_ok-write_mchunk.ensures
 
 pub returns : goal.returns
 returns c = all mchunk_text (level_said c.args.level) (vec_items c.args.out.now) _ _ c.loop-i.invariant (omega arith)
