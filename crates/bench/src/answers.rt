@@ -3,12 +3,12 @@ use crate::refusal::refuse;
 use crate::words::plain;
 use chunk::chunk::Chunk;
 use chunk::release::ReleaseIn;
+use ideals::ideal::IdealIn;
+use ideals::semver::SemVer;
 use job::against::{Verdict, against};
 use job::command::{Command, without_return};
 use lines::shown::shown;
 use order::Parts;
-use ideals::ideal::IdealIn;
-use ideals::semver::SemVer;
 use std::io;
 
 /// Prints a line, and below it what came of it. Blank lines are passed over.

@@ -14,9 +14,9 @@ use crate::level::{Level, number_mchunk};
 use complex::mchunk::MChunk;
 use complex::views::MessIn;
 use general::general::VersionIn;
+use ideals::ideal::IdealIn;
 use mess::sep::Sep;
 use order::{Parts, compare_lists};
-use ideals::ideal::IdealIn;
 use std::cmp::Ordering;
 use word::Word;
 

@@ -7,9 +7,9 @@ ghost use Rattle.mixed.specs.Complexes.{lenient_at, converted, by_lenient, by_pa
 
 use complex::views::MessIn;
 use convert::levels::Levels;
+use ideals::ideal::IdealIn;
 use lenient::number::lenient_number;
 use mess::mess::Mess;
-use ideals::ideal::IdealIn;
 use std::cmp::Ordering;
 
 /// The number at a position of a Complex.

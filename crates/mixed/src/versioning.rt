@@ -17,9 +17,9 @@ use crate::semver_mess::cmp_mess as cmp_ideal_mess;
 use crate::version::cmp_mess as cmp_general_mess;
 use complex::views::MessIn;
 use general::general::VersionIn;
+use ideals::ideal::IdealIn;
 use mess::mess::Mess;
 use order::{ElementOrder, compare_texts};
-use ideals::ideal::IdealIn;
 use std::cmp::Ordering;
 use versioning::versioning::Versioning;
 

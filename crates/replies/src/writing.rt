@@ -9,9 +9,9 @@ ghost use Rattle.replies.specs.Written.{piece_text, comma_before, pieces_text, r
 use chunk::chunk::Chunk;
 use chunk::release::ReleaseIn;
 use fault::{LabelFault, Layer};
+use ideals::ideal::IdealIn;
 use order::Parts;
 use protocol::answer::Answer;
-use ideals::ideal::IdealIn;
 use std::alloc::AllocError;
 use std::cmp::Ordering;
 

@@ -12,8 +12,8 @@ ghost use Rattle.versioning.specs.First.{first_of, further, first_answer, FirstF
 ghost use Rattle.versioning.specs.Labels.{parts_in, read_in, ideal_nth, nth_in};
 
 use fault::LabelFault;
-use mess::mess::Mess;
 use ideals::semver::SemVer;
+use mess::mess::Mess;
 use version::version::Version;
 
 /// A label that was read: its form, and its parts as numbers and places in its text.
