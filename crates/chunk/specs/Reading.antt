@@ -1,5 +1,5 @@
 -- The meaning: readers of chunks, lists of chunks and Releases. Assumes nothing.
-use Rattle.std.specs.Prelude.{ℕ, Bool, cond, List, Some, None, Option}
+use Rattle.std.specs.Prelude.{ℕ, Bool, cond, List, Some, None}
 use Rattle.std.specs.Char.{is_ascii_alphabetic}
 use Rattle.parsers.specs.Bytes.{letter_or_hyphen, or_digit, any}
 use Rattle.parsers.specs.Reading.{Reader, follow, behind_of, dotted_of, span, number_of}

@@ -1,5 +1,5 @@
 -- How the order of Ideals is put together. Assumes nothing.
-use Rattle.std.proofs.Common.{◌≡◌, ℕ, ◌<◌, List, Ordering, Less, Equal, Greater, sym, refl, ap, ◌∙◌, subst}
+use Rattle.std.proofs.Common.{◌≡◌, ℕ, List, Ordering, Less, Equal, Greater, sym, refl, ap, ◌∙◌, subst}
 use Rattle.std.specs.Ordering.{ordering_then, nat_cmp}
 use Rattle.standard.specs.Parts.{Parts}
 use Rattle.standard.specs.Order.{release_order, ideal_order}

@@ -1,5 +1,5 @@
 -- Which Ideals a tilde and a caret rule fit. Assumes nothing.
-use Rattle.std.specs.Prelude.{◌≡◌, ℕ, ◌<◌, ◌≤◌, ◌⊎◌}
+use Rattle.std.specs.Prelude.{◌≡◌, ◌<◌, ◌≤◌, ◌⊎◌}
 use Rattle.ideals.specs.declared.semver.SemVer.{SemVer}
 
 -- the label has the rule's major and minor, and a patch that is not lower

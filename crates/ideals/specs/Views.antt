@@ -1,5 +1,5 @@
 -- What an Ideal label beside its text says, and its order. Assumes nothing.
-use Rattle.std.specs.Prelude.{◌≡◌, ℕ, ◌<◌, ◌≤◌, ◌⊎◌, List}
+use Rattle.std.specs.Prelude.{◌≡◌, ℕ, List}
 use Rattle.std.specs.declared.cmp.Ordering.TheVariants.{Equal}
 use Rattle.std.specs.declared.cmp.Ordering.{Ordering}
 use Rattle.order.specs.Orders.{Order}
@@ -7,7 +7,6 @@ use Rattle.standard.specs.Parts.{Parts}
 use Rattle.standard.specs.Order.{ideal_order}
 use Rattle.standard.specs.Theorems.{Ideal, Iff, before_plus}
 use Rattle.standard.proofs.Stricts.{strict_stands}
-use Rattle.ideals.specs.declared.semver.SemVer.{SemVer}
 use Rattle.ideals.specs.declared.ideal.IdealIn.{IdealIn}
 use Rattle.ideals.specs.Labels.{parts_in}
 

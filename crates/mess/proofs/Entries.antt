@@ -7,9 +7,7 @@ use Rattle.std.proofs.lemmas.List.{drop_all, get_or-map}
 use Rattle.std.proofs.lemmas.Option.{slice_get-get_or, slice_get_past}
 use Rattle.std.proofs.lemmas.Slice.{between_to_end}
 use Rattle.texts.specs.Tables.{Taken}
-use Rattle.mess.specs.declared.sep.Sep.{Sep}
-use Rattle.mess.specs.declared.sep.Sep.TheVariants.{Colon, Hyphen, Plus, Underscore, Tilde}
-use Rattle.mess.specs.declared.rows.Rows.{Rows}
+use Rattle.mess.specs.declared.sep.Sep.TheVariants.{Colon}
 use Rattle.mess.specs.declared.mchunk.MEntry.{MEntry}
 use Rattle.mess.specs.declared.mess.Level.{Level}
 use Rattle.mess.specs.declared.mess.Mess.{Mess}

@@ -1,5 +1,5 @@
 -- A General and a Complex that meet position by position. Assumes nothing.
-use Rattle.std.proofs.Common.{◌≡◌, ℕ, zero, suc, ◌+◌, ◌-◌, ◌<◌, ◌≤◌, List, [], ◌∷◌, length, Some, None, Option, Ordering, Less, Equal, Greater, sym, refl, ap, ◌∙◌, subst, arith}
+use Rattle.std.proofs.Common.{◌≡◌, ℕ, zero, suc, ◌+◌, ◌-◌, ◌<◌, ◌≤◌, List, [], ◌∷◌, length, Some, None, Ordering, Equal, sym, refl, ap, ◌∙◌, arith}
 use Rattle.std.specs.Ordering.{ordering_then, nat_cmp}
 use Rattle.version.specs.Parts as version
 use Rattle.version.specs.Numbers as general

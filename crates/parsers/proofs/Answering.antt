@@ -1,9 +1,9 @@
 -- What `parse` and `new` of a form answer, from its reader. Assumes nothing.
-use Rattle.std.proofs.Common.{◌≡◌, ℕ, ◌-◌, ◌<◌, ◌≤◌, Bool, true, false, cond, eqb, leb, List, [], length, take, drop, Some, None, Ok, Err, Option, Result, sym, refl, ap, ◌∙◌, subst, le_refl, arith, length-drop, take_all}
+use Rattle.std.proofs.Common.{◌≡◌, ℕ, ◌-◌, ◌≤◌, cond, eqb, leb, List, [], length, take, drop, Some, None, Ok, Err, Option, Result, sym, refl, ap, ◌∙◌, subst, le_refl, arith, length-drop, take_all}
 use Rattle.std.proofs.lemmas.List.{nil_from_length, drop_all}
 use Rattle.std.proofs.lemmas.Bool.{cond-true, cond-false, cond_both, eq-eqb, ne_eqb, eqb-true, eqb-false, le-leb, leb-true}
 use Rattle.fault.specs.declared.LabelFault.{LabelFault}
-use Rattle.fault.specs.declared.LabelFault.TheVariants.{Empty, TooLong, NoForm}
+use Rattle.fault.specs.declared.LabelFault.TheVariants.{NoForm}
 use Rattle.parsers.specs.Grammar.{Grammar}
 use Rattle.parsers.specs.Reading.{Reader, follow}
 use Rattle.parsers.specs.Whole.{Whole}

@@ -1,14 +1,13 @@
 -- Stretches, numbers and metadata.
-use Rattle.std.proofs.Common.{◌≡◌, ℕ, zero, suc, ◌+◌, ◌-◌, ◌*◌, ◌<◌, ◌≤◌, Bool, true, false, cond, ◌||◌, eqb, leb, List, [], ◌∷◌, ◌++◌, IfSome, Some, None, Option, sym, refl, ap, ◌∙◌, subst, arith}
+use Rattle.std.proofs.Common.{◌≡◌, ℕ, ◌≤◌, Bool, true, eqb, leb, List, [], ◌∷◌, ◌++◌, IfSome, Some, None, Option, refl, ap, ◌∙◌, arith}
 use mathlib.Core.List.{head-eq_of_cons-eq}
 use Rattle.std.specs.Char.{is_ascii_digit}
-use Rattle.std.proofs.ByRecursion.{All-weaker}
-use Rattle.std.proofs.lemmas.Bool.{cond-true, cond-false, cond_both, eqb-true, eqb-false, ne_eqb, le-leb, leb-true, or_parts, or_left, or_from}
+use Rattle.std.proofs.lemmas.Bool.{cond-true, cond-false, cond_both, eqb-true, eqb-false, ne_eqb, le-leb, leb-true}
 use Rattle.std.proofs.lemmas.Bool.Decides.{nat_tests}
 use Rattle.parsers.specs.Bytes.{letter_or_hyphen, or_digit, Each}
 use Rattle.parsers.specs.Grammar.{limit, worth, Number, nought, digits, Stretch, stretch, Metadata}
-use Rattle.parsers.specs.Reading.{Reader, follow, push, span, some, stretch_of, counted, number_of, meta_of}
-use Rattle.parsers.proofs.Joining.{Stops, or, stops_weaker, follow_found, Front, Reads, behind_reads, dotted_reads, spelled_reads}
+use Rattle.parsers.specs.Reading.{follow, push, span, some, stretch_of, counted, number_of, meta_of}
+use Rattle.parsers.proofs.Joining.{Stops, or, follow_found, Front, Reads, behind_reads, dotted_reads, spelled_reads}
 
 module _ (p : ℕ → Bool) where
   pub span_sound : (bs : List ℕ) → Each p (span p bs).0 × (bs ≡ (span p bs).0 ++ (span p bs).1)

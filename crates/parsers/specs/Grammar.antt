@@ -1,5 +1,5 @@
 -- The subject: what the grammars of labels are made of, as relations of whole texts and their parts. Assumes nothing.
-use Rattle.std.specs.Prelude.{◌≡◌, ℕ, ◌+◌, ◌-◌, ◌*◌, ◌<◌, ◌≤◌, Bool, List, [], ◌∷◌, ◌++◌, Some, None, Option}
+use Rattle.std.specs.Prelude.{ℕ, ◌+◌, ◌-◌, ◌*◌, ◌<◌, ◌≤◌, Bool, List, [], ◌∷◌, ◌++◌, Some, None, Option}
 use Rattle.std.specs.Char.{is_ascii_digit}
 use Rattle.parsers.specs.Bytes.{letter_or_hyphen, or_digit, Each}
 

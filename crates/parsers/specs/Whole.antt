@@ -1,5 +1,5 @@
 -- What ties a reader to a grammar. Assumes nothing.
-use Rattle.std.specs.Prelude.{◌≡◌, ℕ, List, [], Some, Option}
+use Rattle.std.specs.Prelude.{◌≡◌, ℕ, List, [], Some}
 use Rattle.parsers.specs.Grammar.{Grammar}
 use Rattle.parsers.specs.Reading.{Reader}
 

@@ -1,5 +1,5 @@
 -- The meaning: the reader of Ideal labels. Assumes nothing.
-use Rattle.std.specs.Prelude.{ℕ, List, Some, None, Option}
+use Rattle.std.specs.Prelude.{Some, None}
 use Rattle.parsers.specs.Reading.{Reader, follow, perhaps_of, behind_of, number_of, meta_of}
 use Rattle.chunk.specs.Reading.{release_of}
 use Rattle.standard.specs.Parts.{Parts}

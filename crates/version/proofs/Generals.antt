@@ -1,12 +1,12 @@
 -- The reader of Generals reads what the grammar yields. Assumes nothing.
-use Rattle.std.proofs.Common.{◌≡◌, ℕ, Bool, true, false, eqb, List, [], ◌∷◌, ◌++◌, IfSome, Some, None, Option, sym, refl, ap, ◌∙◌, subst, append_assoc, append-nil, arith}
+use Rattle.std.proofs.Common.{◌≡◌, ℕ, Bool, false, eqb, List, [], ◌∷◌, ◌++◌, IfSome, Some, None, Option, sym, refl, ap, ◌∙◌, subst, append_assoc, append-nil, arith}
 use Rattle.std.specs.Char.{is_ascii_alphabetic}
 use Rattle.std.proofs.ByRecursion.{All-weaker}
 use Rattle.std.proofs.lemmas.Bool.{cond_both, eqb-true, both_ways, or_left}
 use Rattle.std.proofs.lemmas.Bool.Decides.{nat_tests}
 use Rattle.parsers.specs.Bytes.{or_digit, Each}
-use Rattle.parsers.specs.Grammar.{Number, Dotted, dotted}
-use Rattle.parsers.specs.Reading.{follow, span, perhaps_of, behind_of, number_of, meta_of}
+use Rattle.parsers.specs.Grammar.{Number, dotted}
+use Rattle.parsers.specs.Reading.{span, perhaps_of, behind_of, number_of, meta_of}
 use Rattle.parsers.specs.Whole.{Whole}
 use Rattle.texts.specs.Piece as piece
 use Rattle.texts.specs.Piece.{Piece}

@@ -1,5 +1,5 @@
 -- The reader of the Last reads what the grammar says of that chunk. Assumes nothing.
-use Rattle.std.proofs.Common.{◌≡◌, ℕ, Bool, true, false, List, [], ◌∷◌, ◌++◌, IfSome, Some, None, Option, unwrap_or, sym, refl, ap, ◌∙◌, subst, append_assoc, append-nil, arith}
+use Rattle.std.proofs.Common.{◌≡◌, ℕ, Bool, true, List, [], ◌∷◌, ◌++◌, IfSome, Some, None, Option, unwrap_or, sym, refl, ap, ◌∙◌, append_assoc, append-nil, arith}
 use Rattle.std.specs.Char.{is_ascii_digit, is_ascii_alphabetic}
 use Rattle.std.proofs.lemmas.Bool.Decides.{nat_tests}
 use Rattle.parsers.specs.Grammar.{Grammar, Number, nought, digits, Stretch, stretch}
@@ -9,7 +9,7 @@ use Rattle.texts.specs.Piece as piece
 use Rattle.texts.specs.Piece.{Piece}
 use Rattle.parsers.proofs.Joining.{Stops, follow_found, Front, Reads, some_same, whole}
 use Rattle.parsers.proofs.Parts.{number_reads, stretch_reads}
-use Rattle.version.specs.Parts.{LastPart, numeric, rc, post, alphanum}
+use Rattle.version.specs.Parts.{LastPart, alphanum}
 use Rattle.version.specs.Grammar.{Rc, rc_text, Post, post_text, Lasts, number, candidate, posted, other}
 use Rattle.version.specs.Reading.{rc_of, post_of, ended, all_of, last_of}
 

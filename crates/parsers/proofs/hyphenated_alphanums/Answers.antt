@@ -1,4 +1,3 @@
-use Rattle.std.proofs.Common.{arith}
 use Rattle.parsers.proofs.Stretches.{no_stretch, as_stretch}
 use Rattle.parsers.proofs.hyphenated_alphanums.Goals as goal
 

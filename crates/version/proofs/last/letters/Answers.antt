@@ -1,4 +1,4 @@
-use Rattle.std.proofs.Common.{◌≤◌, length, take, refl, ap, ◌∙◌, subst, arith, length-take}
+use Rattle.std.proofs.Common.{◌≤◌, length, refl, ap, ◌∙◌, subst, arith, length-take}
 use Rattle.std.specs.Char.{is_ascii_alphabetic}
 use Rattle.parsers.specs.Places.{EndOf}
 use Rattle.parsers.proofs.Stretches.{no_stretch, as_stretch}

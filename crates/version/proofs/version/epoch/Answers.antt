@@ -1,4 +1,4 @@
-use Rattle.std.proofs.Common.{◌≡◌, Some, refl, ◌∙◌, arith}
+use Rattle.std.proofs.Common.{Some, arith}
 use Rattle.texts.specs.Texts.{bytes_of}
 use Rattle.parsers.proofs.Lists.{no_mark, behind_mark}
 use Rattle.version.proofs.version.epoch.Goals as goal

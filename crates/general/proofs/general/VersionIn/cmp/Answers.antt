@@ -1,4 +1,4 @@
-use Rattle.std.proofs.Common.{◌≡◌, Equal, unwrap_or, sym, ap, ◌∙◌}
+use Rattle.std.proofs.Common.{◌≡◌, unwrap_or, ap, ◌∙◌}
 use Rattle.std.specs.Ordering.{nat_cmp}
 use Rattle.general.specs.Order.{era}
 use Rattle.general.specs.Views.{parts_of}
