@@ -4,7 +4,7 @@ use Rattle.texts.specs.Piece.{Piece}
 use Rattle.order.specs.Orders.{Order}
 use Rattle.chunk.specs.Said.{says}
 use Rattle.chunk.specs.Tables.{listed_in}
-use Rattle.lenient.specs.declared.chunk.ByLenient.{ByLenient}
+use Rattle.lenient.specs.declared.ordering.ByLenient.{ByLenient}
 use Rattle.lenient.specs.declared.chunks.FirstChunks.{FirstChunks}
 use Rattle.lenient.specs.Order.{lenient_order, lenient_balanced}
 

@@ -5,7 +5,7 @@ ghost use Rattle.order.specs.Orders.{Same};
 ghost use Rattle.chunk.specs.Tables.{listed_in};
 ghost use Rattle.lenient.specs.Said.{leniently, first_in};
 
-use crate::chunk::ByLenient;
+use crate::ordering::ByLenient;
 use chunk::chunk::Chunk;
 use chunk::chunks::ChunksIn;
 use order::Parts;

@@ -1,6 +1,6 @@
 //! The lenient number of a chunk, and the lenient order of chunks.
 #![tactic(auto)]
 
-pub mod chunk;
 pub mod chunks;
 pub mod number;
+pub mod ordering;

@@ -1,7 +1,7 @@
 -- What a label beside its text says, and its order. Assumes nothing.
 use Rattle.order.specs.Orders.{Order}
 use Rattle.versioning.specs.Labels.{Parts, parts_in}
-use Rattle.mixed.specs.declared.versioning.VersioningIn.{VersioningIn}
+use Rattle.mixed.specs.declared.label.VersioningIn.{VersioningIn}
 use Rattle.mixed.specs.Labels.{label_order, label_balanced}
 
 abbrev pub parts_of : VersioningIn → Parts

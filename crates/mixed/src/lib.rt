@@ -1,7 +1,7 @@
 //! How labels of different forms compare, and so every two labels.
 #![tactic(auto)]
 
+pub mod label;
 pub mod semver;
 pub mod semver_mess;
-pub mod version;
-pub mod versioning;
+pub mod version_mess;

@@ -1,7 +1,7 @@
 -- The classes of bytes. Assumes nothing.
 use Rattle.std.specs.Prelude.{◌≡◌, ℕ, Bool, true, false, ◌||◌, List, [], ◌∷◌, ◌==◌}
 use Rattle.std.specs.Char.{is_ascii_digit, is_ascii_alphabetic}
-use Rattle.std.specs.List.{AllByRecursion as All}
+use Rattle.std.specs.List.{AllByRecursion}
 
 abbrev pub letter_or_hyphen : ℕ → Bool
 letter_or_hyphen b = is_ascii_alphabetic b || b == 45
@@ -12,7 +12,7 @@ or_digit q b = is_ascii_digit b || q b
 
 -- every byte is of the class p
 abbrev pub Each : (ℕ → Bool) → List ℕ → Type 0
-Each p w = All (λ b. p b ≡ true) w
+Each p w = AllByRecursion (λ b. p b ≡ true) w
 
 -- some byte is of the class q
 abbrev pub any : (ℕ → Bool) → List ℕ → Bool

@@ -2,8 +2,8 @@
 #![tactic(auto)]
 
 mod chunks;
-mod complex;
-mod general;
+mod complexes;
+mod generals;
 mod ideal;
 pub mod number;
 pub mod parts;

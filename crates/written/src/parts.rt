@@ -3,8 +3,8 @@ ghost use Rattle.std.specs.Prelude.{◌≡◌, ◌++◌, OnOk};
 ghost use Rattle.versioning.specs.Labels.{parts_in};
 ghost use Rattle.written.specs.Written.{parts_text};
 
-use crate::complex::write_complex;
-use crate::general::write_general;
+use crate::complexes::write_complex;
+use crate::generals::write_general;
 use crate::ideal::write_ideal;
 use complex::views::MessIn;
 use convert::levels::Levels;
