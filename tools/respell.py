@@ -83,6 +83,9 @@ def turn(text, names, comment):
 
 def main():
     found = own()
+    # a reader `last-of` that stands alone is no order
+    if "last-of" not in found:
+        ORDERS.pop("last_of", None)
     names = {n: spelled(n) for n in found if spelled(n) != n}
     together = {}
     for n in found:

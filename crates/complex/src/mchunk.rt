@@ -1,8 +1,7 @@
 //! MChunks: the parts of a level, and their order.
 ghost use Rattle.std.specs.Prelude.{◌≡◌};
 ghost use Rattle.word.specs.Words.{word_of};
-ghost use Rattle.mess.specs.Tables.{text_of};
-ghost use Rattle.mess.specs.Tables.{mchunk_in};
+ghost use Rattle.mess.specs.Tables.{text_of, mchunk_in};
 ghost use Rattle.complex.specs.Order.{mchunk_order, Ring, NotStrict};
 ghost use Rattle.complex.specs.Said.{says, mchunkwise};
 

@@ -53,6 +53,7 @@ impl<'a> MessIn<'a> {
             end: self.mess.begin(self.next),
         }
     }
+
     /// How many further levels there are.
     pub fn further(&self) -> usize
         ensures count { result ≡ length (parts_of self.now).further }

@@ -1,7 +1,7 @@
 //! A level of a Complex, or of a label that is converted to one.
 ghost use Rattle.std.specs.Prelude.{◌≡◌, ◌+◌, ◌<◌, [], ◌∷◌, ◌++◌, map, length, slice_index_or, refl};
 ghost use Rattle.order.specs.Orders.{Same};
-ghost use Rattle.chunk.specs.Said.{says as chunk-said};
+ghost use Rattle.chunk.specs.Said.{says as chunk_said};
 ghost use Rattle.chunk.specs.Tables.{listed_in, view_in};
 ghost use Rattle.general.specs.Views.{last_said};
 ghost use Rattle.complex.specs.Said.{says, mchunkwise};
@@ -27,7 +27,7 @@ pub fn number_mchunk<'a>(number: u32) -> MChunk<'a>
 
 /// A chunk: a Numeric becomes Digits, an Alphanum Plain.
 pub fn chunk_mchunk(chunk: Chunk<'_>) -> MChunk<'_>
-    ensures { says result ≡ chunk_mchunk (chunk-said chunk.entry) }
+    ensures { says result ≡ chunk_mchunk (chunk_said chunk.entry) }
 {
     match chunk {
         Chunk::Numeric(number) => number_mchunk(number),

@@ -3,10 +3,10 @@ ghost use Rattle.std.specs.Prelude.{◌≡◌, ◌+◌, ◌<◌, length, refl};
 ghost use Rattle.std.specs.Option.{option_map};
 ghost use Rattle.order.specs.Orders.{Same};
 ghost use Rattle.texts.specs.Tables.{Taken};
-ghost use Rattle.ideals.specs.Views.{parts_of as ideal-parts};
-ghost use Rattle.general.specs.Views.{parts_of as general-parts};
+ghost use Rattle.ideals.specs.Views.{parts_of as ideal_parts};
+ghost use Rattle.general.specs.Views.{parts_of as general_parts};
 ghost use Rattle.complex.specs.Order.{complex_order};
-ghost use Rattle.complex.specs.Views.{parts_of as mess-parts};
+ghost use Rattle.complex.specs.Views.{parts_of as mess_parts};
 ghost use Rattle.convert.specs.Convert.{ideal_to_mess, body_to_mess, general_to_mess};
 ghost use Rattle.convert.specs.Said.{level_said, mess_said, signed_said, levelwise, levels_said};
 
@@ -35,14 +35,14 @@ pub enum Levels<'a> {
 
 /// The chunks and the Last of a General.
 fn body<'a>(general: VersionIn<'a>) -> Level<'a>
-    ensures { level_said result ≡ (body_to_mess (general-parts general.entry)).first }
+    ensures { level_said result ≡ (body_to_mess (general_parts general.entry)).first }
 {
     Level::Chunks(general.chunks(), general.last())
 }
 
 /// The level behind the first of an Ideal, or that behind it.
 fn ideal_level<'a>(ideal: IdealIn<'a>, i: usize) -> Option<(Sep, Level<'a>)>
-    ensures { Taken (ideal_to_mess (ideal-parts ideal.entry)).further i (option_map signed_said result) }
+    ensures { Taken (ideal_to_mess (ideal_parts ideal.entry)).further i (option_map signed_said result) }
 {
     match (ideal.release(), ideal.meta(), i) {
         (Some(release), _, 0) => Some((Sep::Hyphen, Level::Release(release))),
@@ -54,7 +54,7 @@ fn ideal_level<'a>(ideal: IdealIn<'a>, i: usize) -> Option<(Sep, Level<'a>)>
 
 /// The level behind the chunks of a General: its Release.
 fn body_level<'a>(general: VersionIn<'a>, i: usize) -> Option<(Sep, Level<'a>)>
-    ensures { Taken (body_to_mess (general-parts general.entry)).further i (option_map signed_said result) }
+    ensures { Taken (body_to_mess (general_parts general.entry)).further i (option_map signed_said result) }
 {
     match (general.release(), i) {
         (Some(release), 0) => Some((Sep::Hyphen, Level::Release(release))),
@@ -64,7 +64,7 @@ fn body_level<'a>(general: VersionIn<'a>, i: usize) -> Option<(Sep, Level<'a>)>
 
 /// The level behind the epoch of a General, where it has one, and the further ones.
 fn general_level<'a>(general: VersionIn<'a>, i: usize) -> Option<(Sep, Level<'a>)>
-    ensures { Taken (general_to_mess (general-parts general.entry)).further i (option_map signed_said result) }
+    ensures { Taken (general_to_mess (general_parts general.entry)).further i (option_map signed_said result) }
 {
     let Some(_) = general.epoch() else {
         return body_level(general, i);
@@ -77,7 +77,7 @@ fn general_level<'a>(general: VersionIn<'a>, i: usize) -> Option<(Sep, Level<'a>
 
 /// A further level of a Complex.
 fn read_level<'a>(mess: MessIn<'a>, i: usize) -> Option<(Sep, Level<'a>)>
-    ensures { Taken (mess-parts mess.entry).further i (option_map signed_said result) }
+    ensures { Taken (mess_parts mess.entry).further i (option_map signed_said result) }
 {
     match mess.level(i) {
         Some((sep, level)) => Some((sep, Level::Read(level))),
@@ -87,7 +87,7 @@ fn read_level<'a>(mess: MessIn<'a>, i: usize) -> Option<(Sep, Level<'a>)>
 
 /// The number of the further levels of an Ideal.
 fn ideal_further(ideal: IdealIn<'_>) -> usize
-    ensures { result ≡ length (ideal_to_mess (ideal-parts ideal.entry)).further }
+    ensures { result ≡ length (ideal_to_mess (ideal_parts ideal.entry)).further }
 {
     match (ideal.release(), ideal.meta()) {
         (Some(_), Some(_)) => 2,
@@ -98,7 +98,7 @@ fn ideal_further(ideal: IdealIn<'_>) -> usize
 
 /// The number of the levels behind the chunks of a General.
 fn body_further(general: VersionIn<'_>) -> usize
-    ensures { result ≡ length (body_to_mess (general-parts general.entry)).further }
+    ensures { result ≡ length (body_to_mess (general_parts general.entry)).further }
 {
     match general.release() {
         Some(_) => 1,

@@ -1,8 +1,7 @@
 //! Ideal labels beside their texts: their parts, their order, tilde and caret.
 ghost use Rattle.std.specs.Prelude.{◌≡◌, true};
-ghost use Rattle.std.specs.Ordering.{nat_cmp};
+ghost use Rattle.std.specs.Ordering.{nat_cmp, ordering_then};
 ghost use Rattle.std.specs.Option.{option_map};
-ghost use Rattle.std.specs.Ordering.{ordering_then};
 ghost use Rattle.order.specs.Laws.{Strict};
 ghost use Rattle.order.specs.Orders.{Same};
 ghost use Rattle.chunk.specs.Tables.{view_in};

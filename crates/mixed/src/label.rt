@@ -1,13 +1,12 @@
 //! Labels of any form beside their texts: how every two compare, and which are the same.
 ghost use Rattle.std.specs.Prelude.{◌≡◌, true};
-ghost use Rattle.std.specs.Ordering.{nat_cmp};
-ghost use Rattle.std.specs.Ordering.{is_eq};
+ghost use Rattle.std.specs.Ordering.{nat_cmp, is_eq};
 ghost use Rattle.order.specs.Lists.{lex};
 ghost use Rattle.standard.specs.Order.{ideal_order};
 ghost use Rattle.standard.specs.Theorems.{Iff};
-ghost use Rattle.ideals.specs.Views.{parts_of as ideal-parts};
-ghost use Rattle.general.specs.Views.{parts_of as general-parts};
-ghost use Rattle.mess.specs.Labels.{parts_in as complex-parts};
+ghost use Rattle.ideals.specs.Views.{parts_of as ideal_parts};
+ghost use Rattle.general.specs.Views.{parts_of as general_parts};
+ghost use Rattle.mess.specs.Labels.{parts_in as complex_parts};
 ghost use Rattle.versioning.specs.First.{ideal as as_ideal, general as as_general, complex as as_complex};
 ghost use Rattle.mixed.specs.Labels.{label_order, HigherEpoch, AmongIdeals, equal_of, SameLabel, Agreeing};
 ghost use Rattle.mixed.specs.Views.{parts_of, labelwise};
@@ -32,7 +31,7 @@ pub struct VersioningIn<'a> {
 
 /// An Ideal against a label of any form.
 fn cmp_ideal(ideal: &IdealIn<'_>, other: &VersioningIn<'_>) -> Ordering
-    ensures { result ≡ label_order (as_ideal (ideal-parts ideal.now)) (parts_of other.now) }
+    ensures { result ≡ label_order (as_ideal (ideal_parts ideal.now)) (parts_of other.now) }
 {
     let text = other.text;
     match other.versioning {
@@ -44,7 +43,7 @@ fn cmp_ideal(ideal: &IdealIn<'_>, other: &VersioningIn<'_>) -> Ordering
 
 /// A General against a label of any form.
 fn cmp_general(general: &VersionIn<'_>, other: &VersioningIn<'_>) -> Ordering
-    ensures { result ≡ label_order (as_general (general-parts general.now)) (parts_of other.now) }
+    ensures { result ≡ label_order (as_general (general_parts general.now)) (parts_of other.now) }
 {
     let text = other.text;
     match other.versioning {
@@ -56,7 +55,7 @@ fn cmp_general(general: &VersionIn<'_>, other: &VersioningIn<'_>) -> Ordering
 
 /// A Complex against a label of any form.
 fn cmp_complex<'a>(text: &'a [u8], mess: &'a Mess, other: &VersioningIn<'_>) -> Ordering
-    ensures { result ≡ label_order (as_complex (complex-parts text.now mess.now)) (parts_of other.now) }
+    ensures { result ≡ label_order (as_complex (complex_parts text.now mess.now)) (parts_of other.now) }
 {
     match other.versioning {
         Versioning::Ideal(semver) => {
@@ -112,7 +111,7 @@ fn is_same(a: &[u8], b: &[u8]) -> bool
 
 /// Whether two Ideals have the same numbers and Release.
 fn is_level(a: &IdealIn<'_>, b: &IdealIn<'_>) -> bool
-    ensures { result ≡ is_eq (ideal_order (ideal-parts a.now) (ideal-parts b.now)) }
+    ensures { result ≡ is_eq (ideal_order (ideal_parts a.now) (ideal_parts b.now)) }
 {
     a.cmp(b).is_eq()
 }

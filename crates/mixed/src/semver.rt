@@ -1,9 +1,9 @@
 //! Ideals against labels of the other forms.
 ghost use Rattle.std.specs.Prelude.{◌≡◌, drop};
 ghost use Rattle.chunk.specs.Said.{says};
-ghost use Rattle.ideals.specs.Views.{parts_of as ideal-parts};
+ghost use Rattle.ideals.specs.Views.{parts_of as ideal_parts};
 ghost use Rattle.general.specs.Order.{era};
-ghost use Rattle.general.specs.Views.{parts_of as general-parts};
+ghost use Rattle.general.specs.Views.{parts_of as general_parts};
 ghost use Rattle.mixed.specs.Generals.{before_chunk, tied, by_patch, by_minor, by_major, ideal_general};
 
 use chunk::chunk::Chunk;
@@ -14,7 +14,7 @@ use std::cmp::Ordering;
 
 /// The epoch of a General, absent counting 0.
 pub fn epoch(general: &VersionIn<'_>) -> u32
-    ensures { result ≡ era (general-parts general.now) }
+    ensures { result ≡ era (general_parts general.now) }
 {
     match general.epoch() {
         Some(epoch) => epoch,
@@ -36,7 +36,7 @@ fn before_chunk(fourth: Chunk<'_>) -> Ordering
 
 /// A tie of all three numbers.
 fn cmp_tied(ideal: &IdealIn<'_>, general: &VersionIn<'_>) -> Ordering
-    ensures { result ≡ tied (ideal-parts ideal.now).release (drop 2 (general-parts general.now).chunks) (general-parts general.now).last }
+    ensures { result ≡ tied (ideal_parts ideal.now).release (drop 2 (general_parts general.now).chunks) (general_parts general.now).last }
 {
     let chunks = general.chunks();
     if let Some(fourth) = chunks.get(3) {
@@ -54,7 +54,7 @@ fn cmp_tied(ideal: &IdealIn<'_>, general: &VersionIn<'_>) -> Ordering
 
 /// The patch against the third number.
 fn cmp_patch(ideal: &IdealIn<'_>, general: &VersionIn<'_>) -> Ordering
-    ensures { result ≡ by_patch (ideal-parts ideal.now) (general-parts general.now) }
+    ensures { result ≡ by_patch (ideal_parts ideal.now) (general_parts general.now) }
 {
     match general.version.nth(2) {
         Some(number) => match ideal.semver.patch.cmp(&number) {
@@ -67,7 +67,7 @@ fn cmp_patch(ideal: &IdealIn<'_>, general: &VersionIn<'_>) -> Ordering
 
 /// The minor against the second number.
 fn cmp_minor(ideal: &IdealIn<'_>, general: &VersionIn<'_>) -> Ordering
-    ensures { result ≡ by_minor (ideal-parts ideal.now) (general-parts general.now) }
+    ensures { result ≡ by_minor (ideal_parts ideal.now) (general_parts general.now) }
 {
     match general.version.nth(1) {
         Some(number) => match ideal.semver.minor.cmp(&number) {
@@ -80,7 +80,7 @@ fn cmp_minor(ideal: &IdealIn<'_>, general: &VersionIn<'_>) -> Ordering
 
 /// The major against the first number.
 fn cmp_major(ideal: &IdealIn<'_>, general: &VersionIn<'_>) -> Ordering
-    ensures { result ≡ by_major (ideal-parts ideal.now) (general-parts general.now) }
+    ensures { result ≡ by_major (ideal_parts ideal.now) (general_parts general.now) }
 {
     match general.version.nth(0) {
         Some(number) => match ideal.semver.major.cmp(&number) {
@@ -93,7 +93,7 @@ fn cmp_major(ideal: &IdealIn<'_>, general: &VersionIn<'_>) -> Ordering
 
 /// An Ideal against a General. A General with an epoch above 0 is Greater.
 pub fn cmp_version(ideal: &IdealIn<'_>, general: &VersionIn<'_>) -> Ordering
-    ensures { result ≡ ideal_general (ideal-parts ideal.now) (general-parts general.now) }
+    ensures { result ≡ ideal_general (ideal_parts ideal.now) (general_parts general.now) }
 {
     if epoch(general) > 0 {
         return Ordering::Less;

@@ -2,7 +2,7 @@
 ghost use Rattle.std.specs.Prelude.{◌≡◌};
 ghost use Rattle.mess.specs.Labels.{parts_in};
 ghost use Rattle.mess.specs.Reading.{nth_of};
-ghost use Rattle.ideals.specs.Views.{parts_of as ideal-parts};
+ghost use Rattle.ideals.specs.Views.{parts_of as ideal_parts};
 ghost use Rattle.mixed.specs.Complexes.{lenient_at, converted, by_lenient, by_patch, by_minor, ideal_complex};
 
 use complex::views::MessIn;
@@ -31,7 +31,7 @@ fn lenient_at(text: &[u8], mess: &Mess, n: usize) -> Option<u32>
 
 /// The converted Ideal against a Complex.
 fn cmp_converted<'a>(ideal: &IdealIn<'_>, text: &'a [u8], mess: &'a Mess) -> Ordering
-    ensures { result ≡ converted (ideal-parts ideal.now) (parts_in text.now mess.now) }
+    ensures { result ≡ converted (ideal_parts ideal.now) (parts_in text.now mess.now) }
 {
     let complex = Levels::Complex(MessIn::new(text, mess));
     Levels::Ideal(*ideal).cmp(&complex)
@@ -39,7 +39,7 @@ fn cmp_converted<'a>(ideal: &IdealIn<'_>, text: &'a [u8], mess: &'a Mess) -> Ord
 
 /// The patch against the lenient number in the third place, where no number stands there.
 fn cmp_lenient_patch<'a>(ideal: &IdealIn<'_>, text: &'a [u8], mess: &'a Mess) -> Ordering
-    ensures { result ≡ by_lenient (ideal-parts ideal.now) (parts_in text.now mess.now) }
+    ensures { result ≡ by_lenient (ideal_parts ideal.now) (parts_in text.now mess.now) }
 {
     match lenient_at(text, mess, 2) {
         Some(number) => match ideal.semver.patch.cmp(&number) {
@@ -53,7 +53,7 @@ fn cmp_lenient_patch<'a>(ideal: &IdealIn<'_>, text: &'a [u8], mess: &'a Mess) ->
 
 /// The patch against the third number.
 fn cmp_patch<'a>(ideal: &IdealIn<'_>, text: &'a [u8], mess: &'a Mess) -> Ordering
-    ensures { result ≡ by_patch (ideal-parts ideal.now) (parts_in text.now mess.now) }
+    ensures { result ≡ by_patch (ideal_parts ideal.now) (parts_in text.now mess.now) }
 {
     match nth(text, mess, 2) {
         Some(number) => match ideal.semver.patch.cmp(&number) {
@@ -66,7 +66,7 @@ fn cmp_patch<'a>(ideal: &IdealIn<'_>, text: &'a [u8], mess: &'a Mess) -> Orderin
 
 /// The minor against the second number.
 fn cmp_minor<'a>(ideal: &IdealIn<'_>, text: &'a [u8], mess: &'a Mess) -> Ordering
-    ensures { result ≡ by_minor (ideal-parts ideal.now) (parts_in text.now mess.now) }
+    ensures { result ≡ by_minor (ideal_parts ideal.now) (parts_in text.now mess.now) }
 {
     match nth(text, mess, 1) {
         Some(number) => match ideal.semver.minor.cmp(&number) {
@@ -80,7 +80,7 @@ fn cmp_minor<'a>(ideal: &IdealIn<'_>, text: &'a [u8], mess: &'a Mess) -> Orderin
 /// An Ideal against a Complex: major, minor and patch meet its numbers; where one is absent, and on a tie of all, the
 /// converted Ideal is compared.
 pub fn cmp_mess<'a>(ideal: &IdealIn<'_>, text: &'a [u8], mess: &'a Mess) -> Ordering
-    ensures { result ≡ ideal_complex (ideal-parts ideal.now) (parts_in text.now mess.now) }
+    ensures { result ≡ ideal_complex (ideal_parts ideal.now) (parts_in text.now mess.now) }
 {
     match nth(text, mess, 0) {
         Some(number) => match ideal.semver.major.cmp(&number) {

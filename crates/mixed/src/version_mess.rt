@@ -1,7 +1,7 @@
 //! Generals against Complexes.
 ghost use Rattle.std.specs.Prelude.{◌≡◌};
 ghost use Rattle.mess.specs.Labels.{parts_in};
-ghost use Rattle.general.specs.Views.{parts_of as general-parts};
+ghost use Rattle.general.specs.Views.{parts_of as general_parts};
 ghost use Rattle.complex.specs.Order.{complex_order};
 ghost use Rattle.complex.specs.Fronts.{behind_first, epoch_like};
 ghost use Rattle.convert.specs.Said.{mess_said};
@@ -23,7 +23,7 @@ fn cmp_positions(
     mine: &Levels<'_>,
     other: &Levels<'_>,
 ) -> Ordering
-    ensures { result ≡ by_positions (general-parts general.now) (parts_in text.now mess.now) (complex_order (mess_said mine.now) (mess_said other.now)) }
+    ensures { result ≡ by_positions (general_parts general.now) (parts_in text.now mess.now) (complex_order (mess_said mine.now) (mess_said other.now)) }
 {
     let count = general.chunks().len();
     for n in 0..count + 1 {
@@ -44,7 +44,7 @@ fn cmp_positions(
 /// A General with an epoch above 0. The epoch meets the first level of the Complex where that reads as one, and a tie goes
 /// on behind it; otherwise the General is Greater.
 fn cmp_epoch<'a>(general: &VersionIn<'_>, text: &'a [u8], mess: &'a Mess) -> Ordering
-    ensures { result ≡ by_epoch (general-parts general.now) (epoch_like (parts_in text.now mess.now)) (behind_first (parts_in text.now mess.now)) }
+    ensures { result ≡ by_epoch (general_parts general.now) (epoch_like (parts_in text.now mess.now)) (behind_first (parts_in text.now mess.now)) }
 {
     let complex = MessIn::new(text, mess);
     let (Some(number), Some(rest)) = (complex.epoch(), complex.behind_first()) else {
@@ -61,7 +61,7 @@ fn cmp_epoch<'a>(general: &VersionIn<'_>, text: &'a [u8], mess: &'a Mess) -> Ord
 
 /// A General against a Complex.
 pub fn cmp_mess<'a>(general: &VersionIn<'_>, text: &'a [u8], mess: &'a Mess) -> Ordering
-    ensures { result ≡ general_complex (general-parts general.now) (parts_in text.now mess.now) }
+    ensures { result ≡ general_complex (general_parts general.now) (parts_in text.now mess.now) }
 {
     if epoch(general) > 0 {
         return cmp_epoch(general, text, mess);

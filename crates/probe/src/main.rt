@@ -1,5 +1,6 @@
+//! Answers the commands on standard input, one to a line, on standard output.
 #![tactic(auto)]
-// Answers the commands on standard input, one to a line, on standard output.
+
 ghost use Rattle.std.specs.Io.{ReadsAtMost};
 
 mod begun;
