@@ -6,12 +6,15 @@ mod input;
 mod refusal;
 mod words;
 
-use std::io;
+use std::process::ExitCode;
 
-fn main(rt: HostRuntime) -> io::Result<()> {
-    let done = input::run(&rt);
-    if let Err(e) = &done {
-        let _ = eprintln!(rt; "bench: {e}");
+// A failure is said once, in the bench's own words.
+fn main(rt: HostRuntime) -> ExitCode {
+    match input::run(&rt) {
+        Ok(()) => ExitCode::SUCCESS,
+        Err(e) => {
+            let _ = eprintln!(rt; "bench: {e}");
+            ExitCode::FAILURE
+        }
     }
-    done
 }
