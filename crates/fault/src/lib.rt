@@ -1,17 +1,20 @@
 //! Why a text was turned down, and where.
 #![tactic(auto)]
 
-ghost use Rattle.std.specs.Prelude.{◌≡◌};
-ghost use Rattle.fault.specs.Told.{label_told};
+ghost use Rattle.std.specs.Prelude.{◌≡◌, Some};
+ghost use Rattle.fault.specs.Told.{label_told, cause_of};
+
+use std::error::Error;
+use std::fmt;
 
 /// The layer that turned a text down.
-#[derive(Clone, Copy)]
+#[derive(Clone, Copy, Debug, PartialEq, Eq)]
 pub enum Layer {
     Label,
 }
 
 /// Why a text is no label.
-#[derive(Clone, Copy)]
+#[derive(Clone, Copy, Debug, PartialEq, Eq)]
 pub enum LabelFault {
     /// The text has no bytes.
     Empty,
@@ -51,3 +54,20 @@ impl LabelFault {
         Layer::Label
     }
 }
+
+/// The cause in words; the caret is the mark under the place.
+impl fmt::Display for LabelFault {
+    ghost output = { λ fault. Some (cause_of fault) };
+
+    fn fmt<W: fmt::Write>(&self, f: &mut fmt::Formatter<W>) -> fmt::Result {
+        match self {
+            LabelFault::Empty => write!(f, "the text is empty"),
+            LabelFault::TooLong(longest) => write!(f, "the text is longer than {longest} bytes"),
+            LabelFault::NoForm(_) => {
+                write!(f, "no form takes the text; it was read up to the caret")
+            }
+        }
+    }
+}
+
+impl Error for LabelFault {}
