@@ -7,6 +7,7 @@ ghost use Rattle.order.specs.Lists.{lex};
 ghost use Rattle.order.specs.Orders.{bytewise, Same};
 ghost use Rattle.word.specs.Words.{written, word_of};
 
+use itoa::Buffer;
 use order::{Parts, compare_lists};
 use std::cmp::Ordering;
 
@@ -18,40 +19,13 @@ pub struct Word<'a> {
     pub back: Option<u32>,
 }
 
-/// How many digits write a number.
-fn count_digits(number: u32) -> usize
-    ensures count { result ≡ length (decimal number) }
-    ensures few { result ≤ 10 }
-{
-    let mut count: usize = 1;
-    let mut rest = number;
-    while rest >= 10 {
-        rest /= 10;
-        count += 1;
-    }
-    count
-}
-
-/// The digit at an index of those that write a number.
-fn digit(number: u32, i: usize) -> u8
-    requires { i < length (decimal number) }
-    ensures { result ≡ slice_index_or (decimal number) i result }
-{
-    let behind = count_digits(number) - 1 - i;
-    let mut rest = number;
-    for _ in 0..behind {
-        rest /= 10;
-    }
-    b'0' + (rest % 10) as u8
-}
-
 /// How many digits write a number that may be absent.
 fn count_written(number: Option<u32>) -> usize
     ensures count { result ≡ length (written number) }
     ensures few { result ≤ 10 }
 {
     match number {
-        Some(number) => count_digits(number),
+        Some(number) => Buffer::new().format(number).len(),
         None => 0,
     }
 }
@@ -62,7 +36,7 @@ fn written_digit(number: Option<u32>, i: usize) -> u8
     ensures { result ≡ slice_index_or (written number) i result }
 {
     match number {
-        Some(number) => digit(number, i),
+        Some(number) => Buffer::new().format(number).as_bytes()[i],
         None => b'0',
     }
 }
@@ -150,5 +124,5 @@ impl<'a> Parts for Word<'a> {
 pub fn compare_words<'a, 'b>(a: &Word<'a>, b: &Word<'b>) -> Ordering
     ensures { result ≡ lex nat_cmp (word_of a.now) (word_of b.now) }
 {
-    compare_lists(&*a, &*b)
+    compare_lists(a, b)
 }
