@@ -1,4 +1,3 @@
 pub mod Answers
-pub mod Piece
 pub mod Tables
 pub mod Texts

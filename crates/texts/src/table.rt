@@ -5,16 +5,9 @@ pub struct Span {
     pub to: u8,
 }
 
-/// A part in a table: a number, or the place of a text.
+/// A list of at most 64 rows, kept in place and not on a heap. A text of 128 bytes has no more parts of a kind.
 #[derive(Clone, Copy)]
-pub enum Entry {
-    Numeric(u32),
-    Alphanum(Span),
-}
-
-/// A list of at most 64 parts of a text, by their places. A text of 128 bytes has no more.
-#[derive(Clone, Copy)]
-pub struct Table {
-    pub(crate) entries: [Entry; 64],
+pub struct Rows<T> {
+    pub(crate) rows: [T; 64],
     pub(crate) count: u8,
 }

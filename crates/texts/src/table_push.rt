@@ -1,62 +1,85 @@
-ghost use Rattle.std.specs.Prelude.{◌≡◌, ◌<◌};
-ghost use Rattle.texts.specs.Tables.{count_of, entries_of, table_of, pushed, bytes_in, Taken, Popped};
+ghost use Rattle.std.specs.Prelude.{◌≡◌, ◌<◌, ◌≤◌, true, [], length, take, is_some};
+ghost use Rattle.std.specs.List.{between};
+ghost use Rattle.texts.specs.Tables.{bytes_in, rows_of, pushed, Taken, Popped};
 
-use crate::table::{Entry, Span, Table};
+use crate::table::{Rows, Span};
 
-impl Table {
-    /// A table of one part.
-    pub fn new(first: Entry) -> Table
-        ensures { result ≡ table_of first }
+/// The items from one place to another, as far as there are any.
+fn clipped<T>(items: &[T], from: usize, to: usize) -> &[T]
+    ensures { result.now ≡ between from to items.now }
+{
+    let end = to.min(items.len());
+    items.get(from..end).unwrap_or(&[])
+}
+
+impl<T: Copy> Rows<T> {
+    /// A table of no rows; `blank` fills the room.
+    pub fn new(blank: T) -> Rows<T>
+        ensures { rows_of result ≡ [] }
     {
-        Table {
-            entries: [first; 64],
-            count: 1,
+        Rows {
+            rows: [blank; 64],
+            count: 0,
         }
     }
 
-    /// One part more at the end; a full table stays as it is.
-    pub fn push(&mut self, part: Entry)
-        ensures { self.new ≡ pushed self.old part }
+    /// The rows.
+    pub fn as_slice(&self) -> &[T]
+        ensures rows { result.now ≡ rows_of self.now }
+        ensures few { length result.now ≤ 64 }
+    {
+        &self.rows[..self.rows.len().min(self.count as usize)]
+    }
+
+    /// One row more at the end; a full table stays as it is.
+    pub fn push(&mut self, row: T)
+        ensures { rows_of self.new ≡ pushed (rows_of self.old) row }
     {
         if self.count < 64 {
-            self.entries[self.count as usize] = part;
+            self.rows[self.count as usize] = row;
             self.count += 1;
         }
     }
 
-    /// The last part, taken off the end, if there is one.
-    pub fn pop(&mut self) -> Option<Entry>
-        ensures { Popped (entries_of self.old) (entries_of self.new) result }
+    /// The last row, taken off the end, if there is one.
+    pub fn pop(&mut self) -> Option<T>
+        ensures { Popped (rows_of self.old) (rows_of self.new) result }
     {
-        let entries: &[Entry] = &self.entries;
-        let count = (self.count as usize).min(entries.len());
-        if count == 0 {
-            return None;
-        }
-        let last = entries[count - 1];
-        self.count = (count - 1) as u8;
-        Some(last)
+        let last = self.len().checked_sub(1)?;
+        self.count = last as u8;
+        Some(self.rows[last])
     }
 
-    /// How many parts there are.
+    /// The first `count` rows; the others are taken off.
+    pub fn truncate(&mut self, count: usize)
+        ensures { rows_of self.new ≡ take count (rows_of self.old) }
+    {
+        if count < self.count as usize {
+            self.count = count as u8;
+        }
+    }
+
+    /// How many rows there are.
     pub fn len(&self) -> usize
-        ensures count { result ≡ count_of self.now }
-        ensures few { result < 256 }
+        ensures count { result ≡ length (rows_of self.now) }
+        ensures few { result ≤ 64 }
     {
-        let entries: &[Entry] = &self.entries;
-        (self.count as usize).min(entries.len())
+        self.as_slice().len()
     }
 
-    /// The part at an index, if there is one.
-    pub fn get(&self, i: usize) -> Option<Entry>
-        ensures { Taken (entries_of self.now) i result }
+    /// The row at an index, if there is one.
+    pub fn get(&self, i: usize) -> Option<T>
+        ensures row { Taken (rows_of self.now) i result }
+        ensures few { is_some result ≡ true → i < 64 }
     {
-        let entries: &[Entry] = &self.entries;
-        if i < self.count as usize && i < entries.len() {
-            Some(entries[i])
-        } else {
-            None
-        }
+        self.as_slice().get(i).copied()
+    }
+
+    /// The rows from one place to another, as far as there are any.
+    pub fn between(&self, begin: usize, end: usize) -> &[T]
+        ensures { result.now ≡ between begin end (rows_of self.now) }
+    {
+        clipped(self.as_slice(), begin, end)
     }
 }
 
@@ -65,11 +88,6 @@ impl Span {
     pub fn bytes<'a>(&self, text: &'a [u8]) -> &'a [u8]
         ensures { result.now ≡ bytes_in text.now self.now }
     {
-        let from = self.from as usize;
-        let to = (self.to as usize).min(text.len());
-        if from >= to {
-            return &text[0..0];
-        }
-        &text[from..to]
+        clipped(text, self.from as usize, self.to as usize)
     }
 }

@@ -26,12 +26,9 @@ impl<'a> Text<'a> {
     pub fn new(bytes: &'a [u8]) -> Text<'a>
         ensures { bytes_of result ≡ take 128 bytes.now }
     {
-        if bytes.len() > LONGEST {
-            return Text {
-                bytes: &bytes[0..LONGEST],
-            };
+        Text {
+            bytes: &bytes[..LONGEST.min(bytes.len())],
         }
-        Text { bytes }
     }
 
     pub fn bytes(&self) -> &'a [u8]

@@ -1,5 +1,5 @@
-use Rattle.std.proofs.Common.{sym, arith, take_all}
+use Rattle.std.proofs.lemmas.List.{take_min}
 use Rattle.texts.proofs.text.Text.new.Goals as goal
 
 pub returns : goal.returns
-returns c = sym (take_all 128 c.args.bytes.now (omega arith))
+returns c = rw c.min.ensures (take_min 128 _)
