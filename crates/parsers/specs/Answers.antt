@@ -10,9 +10,13 @@ use Rattle.parsers.specs.Reading.{Reader, follow}
 abbrev pub parsed_by : {C : Type 0} → Reader C → List ℕ → Result (C × ℕ) LabelFault
 parsed_by R text = onward (entering text) (λ text. follow (R text) (λ c rest. Ok (c, length text - length rest)) (Err (NoForm 0)))
 
+-- a part, if with it all n bytes of a text are read
+abbrev pub whole_read : {C : Type 0} → ℕ → C × ℕ → Result C LabelFault
+whole_read n r = cond (r.1 == n) (Ok r.0) (Err (NoForm r.1))
+
 -- `new`: the part, if nothing is left over
 abbrev pub new_by : {C : Type 0} → Reader C → List ℕ → Result C LabelFault
-new_by R text = onward (parsed_by R text) (λ r. cond (r.1 == length text) (Ok r.0) (Err (NoForm r.1)))
+new_by R text = onward (parsed_by R text) (whole_read (length text))
 
 -- `new` takes a text of 1 to 128 bytes exactly if the grammar yields it, with those parts, and a text has one reading
 pub record NewReads {C : Type 0} (P : Grammar C) (text : List ℕ) (r : Result C LabelFault) : Type 0 where

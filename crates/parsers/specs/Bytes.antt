@@ -1,5 +1,5 @@
 -- The classes of bytes. Assumes nothing.
-use Rattle.std.specs.Prelude.{◌≡◌, ℕ, Bool, true, false, ◌||◌, List, [], ◌∷◌, ◌==◌}
+use Rattle.std.specs.Prelude.{◌≡◌, ℕ, Bool, true, ◌||◌, List, ◌==◌}
 use Rattle.std.specs.Char.{is_ascii_digit, is_ascii_alphabetic}
 use Rattle.std.specs.List.{AllByRecursion}
 
@@ -13,8 +13,3 @@ or_digit q b = is_ascii_digit b || q b
 -- every byte is of the class p
 abbrev pub Each : (ℕ → Bool) → List ℕ → Type 0
 Each p w = AllByRecursion (λ b. p b ≡ true) w
-
--- some byte is of the class q
-abbrev pub any : (ℕ → Bool) → List ℕ → Bool
-any q [] = false
-any q (b ∷ bs) = q b || any q bs

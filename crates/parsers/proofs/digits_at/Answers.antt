@@ -1,20 +1,15 @@
-use Rattle.std.proofs.Common.{◌≡◌, subst, arith, rules}
-use Rattle.parsers.proofs.Numbers.{Counting, further, over, none, done}
+use Rattle.std.proofs.Common.{arith, rules}
+use Rattle.parsers.proofs.Numbers.{further, over, done}
 use Rattle.parsers.proofs.digits_at.Goals as goal
 
-pub returns-then-end-at : goal.returns-then-end-at
-returns-then-end-at c = none c.stretch_end-end.ensures c.if-end-at.true
+pub returns-in_err-checked_mul : goal.returns-in_err-checked_mul
+returns-in_err-checked_mul c = rw c.from_residual.ensures (over c.stretch_end-end.ensures c.loop-byte.invariant (omega arith) (search rules))
 
-pub returns-in_default : goal.returns-in_default
-returns-in_default c = over c.stretch_end-end.ensures c.loop-i.invariant (omega arith) c.loop-i-test.true (search rules)
+pub returns-in_err-value : goal.returns-in_err-value
+returns-in_err-value c = rw c.from_residual-in_err-value.ensures (over c.stretch_end-end.ensures c.loop-byte.invariant (omega arith) (search rules))
 
-pub returns-in_default-checked_add : goal.returns-in_default-checked_add
-returns-in_default-checked_add c = over c.stretch_end-end.ensures c.loop-i.invariant (omega arith) c.loop-i-test.true (search rules)
-
-pub loop-i-preserved : goal.loop-i-preserved
-loop-i-preserved c = further c.stretch_end-end.ensures c.loop-i.invariant (omega arith) c.loop-i-test.true _ (search rules) (search rules)
+pub loop-byte-preserved : goal.loop-byte-preserved
+loop-byte-preserved c = further c.stretch_end-end.ensures c.loop-byte.invariant (omega arith) _ (search rules) (search rules)
 
 pub returns : goal.returns
-returns c =
-    let i : c.loop-i.i ≡ c.stretch_end-end.result = omega arith in
-    done c.stretch_end-end.ensures (subst (λ k. Counting c.args.bytes.now c.args.at k c.loop-i.value) i c.loop-i.invariant) c.if-end-at.false
+returns c = done c.stretch_end-end.ensures c.loop-byte.invariant c.if-end-at.false (omega arith)

@@ -1,5 +1,5 @@
 use Rattle.parsers.proofs.Numbers.{Counting}
 use Rattle.parsers.proofs.digits_at.Given as goal
 
-abbrev pub invariant-loop-i : goal.invariant-loop-i
-invariant-loop-i l = Counting l.bytes l.at l.i l.value
+abbrev pub invariant-loop-byte : goal.invariant-loop-byte
+invariant-loop-byte l = Counting l.byte-items l.byte-index l.value
