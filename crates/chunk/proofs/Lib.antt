@@ -1,2 +1,1 @@
 pub mod Chunking
-pub mod Words

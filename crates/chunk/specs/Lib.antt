@@ -1,4 +1,5 @@
 pub mod Grammar
+pub mod Piece
 pub mod Reading
 pub mod Semver
 pub mod Said

@@ -1,9 +1,9 @@
 -- The strict order of what chunks say, and its laws. Assumes nothing.
-use Rattle.std.specs.Prelude.{◌≡◌, refl}
+use Rattle.std.specs.Prelude.{◌≡◌, List, Some, None, Option, refl}
 use Rattle.std.specs.declared.cmp.Ordering.TheVariants.{Less, Equal, Greater}
 use Rattle.std.specs.declared.cmp.Ordering.{Ordering}
 use Rattle.std.specs.Ordering.{ordering_reverse, nat_cmp}
-use Rattle.texts.specs.Piece.{Piece, numeric, alphanum}
+use Rattle.chunk.specs.Piece.{Piece, numeric, alphanum}
 use Rattle.order.specs.Carry.{lex_strict}
 use Rattle.order.specs.Laws.{NotGreater, Balanced, Strict}
 use Rattle.order.specs.Lists.{lex}
@@ -15,6 +15,13 @@ semver_order (numeric m) (numeric n) = nat_cmp m n
 semver_order (numeric m) (alphanum t) = Less
 semver_order (alphanum s) (numeric n) = Greater
 semver_order (alphanum s) (alphanum t) = lex nat_cmp s t
+
+-- two lists of chunks where each may be absent; an absent one against one that is there gives the first answer
+abbrev pub perhaps_order : Ordering → Option (List Piece) → Option (List Piece) → Ordering
+perhaps_order absent None None = Equal
+perhaps_order absent None (Some ys) = absent
+perhaps_order absent (Some xs) None = ordering_reverse absent
+perhaps_order absent (Some xs) (Some ys) = lex semver_order xs ys
 
 texts : Strict (lex nat_cmp)
 texts = lex_strict number_strict

@@ -1,61 +1,25 @@
-//! Plain chunks, and the chunks of a General: one or more plain chunks joined by dots.
-ghost use Rattle.std.specs.Prelude.{◌≡◌, ◌<◌, length};
+//! The chunks of a General, one or more joined by dots, and lists of chunks beside their text.
+ghost use Rattle.std.specs.Prelude.{◌≡◌, ◌≤◌, length, refl};
 ghost use Rattle.std.specs.Option.{option_map};
-ghost use Rattle.std.specs.Char.{is_ascii_alphabetic};
-ghost use Rattle.texts.specs.Tables.{Taken, bytes_in, piece_in};
+ghost use Rattle.order.specs.Orders.{Same};
+ghost use Rattle.texts.specs.Tables.{Taken};
 ghost use Rattle.parsers.specs.Places.{Gives};
 ghost use Rattle.texts.specs.Texts.{bytes_of};
-ghost use Rattle.chunk.specs.Reading.{word_of, chunk_of, chunks_of};
-ghost use Rattle.chunk.specs.Said.{says};
-ghost use Rattle.chunk.specs.Tables.{plain_part, chunks_in, listed_in};
+ghost use Rattle.chunk.specs.Reading.{chunks_of};
+ghost use Rattle.chunk.specs.Said.{says, semverly};
+ghost use Rattle.chunk.specs.Tables.{chunks_in, listed_in};
 
-use crate::chunk::Chunk;
-use parsers::{Digits, PartReader, alphanums, separated_list1, stretch_end, unsigned};
-use texts::table::{Entry, Span, Table};
+use crate::chunk::{BySemver, Chunk, ChunkReader};
+use order::Parts;
+use parsers::{Alphabetic, separated_list1};
+use texts::table::{Rows, Span};
 use texts::text::Text;
 
-/// The run at a place, if it holds a letter, and the place behind it.
-fn alphanum_without_hyphens(text: Text<'_>, at: usize) -> Option<(Span, usize)>
-    ensures { Gives (bytes_in (bytes_of text.entry)) (word_of is_ascii_alphabetic) (bytes_of text.entry) at result }
-{
-    let Some((span, end)) = alphanums(text, at) else {
-        return None;
-    };
-    if stretch_end::<Digits>(text.bytes(), at) < end {
-        Some((span, end))
-    } else {
-        None
-    }
-}
-
-/// The plain chunk at a place, and the place behind it: the run there, if it holds a letter; otherwise the number there.
-pub fn parse_without_hyphens(text: Text<'_>, at: usize) -> Option<(Entry, usize)>
-    ensures { Gives (piece_in (bytes_of text.entry)) (chunk_of is_ascii_alphabetic) (bytes_of text.entry) at result }
-{
-    if let Some((span, end)) = alphanum_without_hyphens(text, at) {
-        return Some((Entry::Alphanum(span), end));
-    }
-    let Some((number, end)) = unsigned(text, at) else {
-        return None;
-    };
-    Some((Entry::Numeric(number), end))
-}
-
-/// The chunks of a General, by their places in its text.
+/// The chunks of a General, by their places in its text. A type apart from `Release`, as they are read and compared
+/// otherwise.
 #[derive(Clone, Copy)]
 pub struct Chunks {
-    pub chunks: Table,
-}
-
-/// Plain chunks as the parts of a list.
-struct PlainChunk;
-
-impl PartReader for PlainChunk {
-    ghost part = { plain_part };
-
-    fn read(text: Text<'_>, at: usize) -> Option<(Entry, usize)> {
-        parse_without_hyphens(text, at)
-    }
+    pub chunks: Rows<Chunk<Span>>,
 }
 
 impl Chunks {
@@ -63,36 +27,57 @@ impl Chunks {
     pub fn parse(text: Text<'_>, at: usize) -> Option<(Chunks, usize)>
         ensures { Gives (chunks_in (bytes_of text.entry)) chunks_of (bytes_of text.entry) at result }
     {
-        let Some(list) = separated_list1::<PlainChunk>(text, at) else {
-            return None;
-        };
-        Some((Chunks { chunks: list.0 }, list.1))
+        let (chunks, end) = separated_list1::<ChunkReader<Alphabetic>>(text, at)?;
+        Some((Chunks { chunks }, end))
     }
 }
 
-/// Chunks beside their text.
+/// A list of chunks beside their text: those of a General, or those of a Release.
 #[derive(Clone, Copy)]
 pub struct ChunksIn<'a> {
     pub text: &'a [u8],
-    pub chunks: &'a Chunks,
+    pub chunks: &'a Rows<Chunk<Span>>,
 }
 
 impl<'a> ChunksIn<'a> {
     /// How many chunks there are.
     pub fn len(&self) -> usize
         ensures count { result ≡ length (listed_in self.now) }
-        ensures few { result < 256 }
+        ensures few { result ≤ 64 }
     {
-        self.chunks.chunks.len()
+        self.chunks.len()
     }
 
     /// The chunk at an index, if there is one.
-    pub fn get(&self, i: usize) -> Option<Chunk<'a>>
+    pub fn get(&self, i: usize) -> Option<Chunk<&'a [u8]>>
         ensures { Taken (listed_in self.now) i (option_map says result) }
     {
-        match self.chunks.chunks.get(i) {
-            Some(entry) => Some(Chunk::new(self.text, entry)),
-            None => None,
-        }
+        let place = self.chunks.as_slice().get(i)?;
+        Some(place.in_text(self.text))
     }
+}
+
+/// A list of chunks under `cmp_semver`.
+impl<'a> Parts for ChunksIn<'a> {
+    type Part = BySemver<'a>;
+
+    ghost each = { semverly };
+
+    ghost parts = { listed_in };
+
+    ghost count = { λ x. length (listed_in x) };
+
+    ghost counted = { λ x. refl };
+
+    fn len(&self) -> usize {
+        ChunksIn::len(self)
+    }
+
+    fn part(&self, i: usize) -> BySemver<'a> {
+        BySemver(self.chunks.as_slice()[i].in_text(self.text))
+    }
+
+    fn agrees()
+        ensures { Same semverly semverly }
+    {}
 }

@@ -3,5 +3,4 @@
 
 pub mod chunk;
 pub mod chunks;
-pub mod perhaps;
 pub mod release;

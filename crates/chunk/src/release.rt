@@ -1,38 +1,25 @@
 //! A Release: a hyphen and one or more release chunks joined by dots.
-ghost use Rattle.std.specs.Prelude.{◌≡◌, ◌<◌, length};
+ghost use Rattle.std.specs.Prelude.{◌≡◌};
+ghost use Rattle.std.specs.Option.{option_map};
 ghost use Rattle.order.specs.Lists.{lex};
-ghost use Rattle.order.specs.Orders.{Same};
-ghost use Rattle.texts.specs.Tables.{count_of};
 ghost use Rattle.parsers.specs.Places.{Gives};
-ghost use Rattle.parsers.proofs.Lists.{said_counted};
 ghost use Rattle.texts.specs.Texts.{bytes_of};
 ghost use Rattle.chunk.specs.Reading.{release_of};
-ghost use Rattle.chunk.specs.Semver.{semver_order};
-ghost use Rattle.chunk.specs.Said.{semverly};
-ghost use Rattle.chunk.specs.Tables.{release_part, release_in, view_in};
+ghost use Rattle.chunk.specs.Semver.{semver_order, perhaps_order};
+ghost use Rattle.chunk.specs.Tables.{release_in, listed_in};
 
-use crate::chunk::{BySemver, Chunk, parse as chunk_parse};
-use order::{Parts, compare_lists};
-use parsers::{PartReader, mark, separated_list1};
+use crate::chunk::{Chunk, ChunkReader};
+use crate::chunks::ChunksIn;
+use order::compare_lists;
+use parsers::{AlphabeticOrHyphen, mark, separated_list1};
 use std::cmp::Ordering;
-use texts::table::{Entry, Table};
+use texts::table::{Rows, Span};
 use texts::text::Text;
 
 /// The chunks of a Release, by their places in its text.
 #[derive(Clone, Copy)]
 pub struct Release {
-    pub chunks: Table,
-}
-
-/// Release chunks as the parts of a list.
-struct ReleaseChunk;
-
-impl PartReader for ReleaseChunk {
-    ghost part = { release_part };
-
-    fn read(text: Text<'_>, at: usize) -> Option<(Entry, usize)> {
-        chunk_parse(text, at)
-    }
+    pub chunks: Rows<Chunk<Span>>,
 }
 
 impl Release {
@@ -40,53 +27,31 @@ impl Release {
     pub fn parse(text: Text<'_>, at: usize) -> Option<(Release, usize)>
         ensures { Gives (release_in (bytes_of text.entry)) release_of (bytes_of text.entry) at result }
     {
-        let Some(from) = mark(text, at, b'-') else {
-            return None;
-        };
-        let Some(list) = separated_list1::<ReleaseChunk>(text, from) else {
-            return None;
-        };
-        Some((Release { chunks: list.0 }, list.1))
+        let from = mark(text.bytes, at, b'-')?;
+        let (chunks, end) = separated_list1::<ChunkReader<AlphabeticOrHyphen>>(text, from)?;
+        Some((Release { chunks }, end))
     }
-}
-
-/// A Release beside its text: the list of its chunks.
-#[derive(Clone, Copy)]
-pub struct ReleaseIn<'a> {
-    pub text: &'a [u8],
-    pub release: &'a Release,
-}
-
-impl<'a> Parts for ReleaseIn<'a> {
-    type Part = BySemver<'a>;
-
-    ghost each = { semverly };
-
-    ghost parts = { view_in };
-
-    ghost count = { λ x. count_of x.release.now.chunks };
-
-    ghost counted = { λ x. said_counted release_part x.text.now x.release.now.chunks };
-
-    fn len(&self) -> usize {
-        self.release.chunks.len()
-    }
-
-    fn part(&self, i: usize) -> BySemver<'a> {
-        match self.release.chunks.get(i) {
-            Some(entry) => BySemver(Chunk::new(self.text, entry)),
-            None => BySemver(Chunk::Numeric(0)),
-        }
-    }
-
-    fn agrees()
-        ensures { Same semverly semverly }
-    {}
 }
 
 /// Two Releases, chunk by chunk under `cmp_semver`; the longer is Greater where all before agree.
-pub fn compare_releases<'a, 'b>(a: ReleaseIn<'a>, b: ReleaseIn<'b>) -> Ordering
-    ensures { result ≡ lex semver_order (view_in a.entry) (view_in b.entry) }
+pub fn compare_releases<'a, 'b>(a: ChunksIn<'a>, b: ChunksIn<'b>) -> Ordering
+    ensures { result ≡ lex semver_order (listed_in a.entry) (listed_in b.entry) }
 {
     compare_lists(&a, &b)
+}
+
+/// Two Releases where each may be absent; an absent one against one that is there gives `absent`.
+pub fn compare_perhaps_releases(
+    a: Option<ChunksIn<'_>>,
+    b: Option<ChunksIn<'_>>,
+    absent: Ordering,
+) -> Ordering
+    ensures { result ≡ perhaps_order absent (option_map listed_in a.entry) (option_map listed_in b.entry) }
+{
+    match (a, b) {
+        (None, None) => Ordering::Equal,
+        (None, Some(_)) => absent,
+        (Some(_), None) => absent.reverse(),
+        (Some(a), Some(b)) => compare_releases(a, b),
+    }
 }

@@ -1,7 +1,7 @@
 -- The lenient number of texts and chunks. Assumes nothing.
 use Rattle.std.specs.Prelude.{ℕ, cond, ◌&&◌, List, [], ◌∷◌, Some, None, Option, ◌==◌}
 use Rattle.std.specs.Char.{is_ascii_alphabetic}
-use Rattle.texts.specs.Piece.{Piece, numeric, alphanum}
+use Rattle.chunk.specs.Piece.{Piece, numeric, alphanum}
 use Rattle.parsers.specs.Reading.{follow, digits_of}
 
 -- The lenient number of a text: the worth of the digits at its front, if there is a digit, within the limit.

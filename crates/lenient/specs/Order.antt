@@ -8,7 +8,7 @@ use Rattle.order.specs.Carry.{lex_balanced}
 use Rattle.order.specs.Laws.{Balanced}
 use Rattle.order.specs.Lists.{lex}
 use Rattle.order.specs.Numbers.{number_balanced}
-use Rattle.texts.specs.Piece.{Piece, numeric, alphanum}
+use Rattle.chunk.specs.Piece.{Piece, numeric, alphanum}
 use Rattle.lenient.specs.Number.{lenient_number, behind_letter}
 
 -- by two numbers where both are there, and otherwise o

@@ -1,6 +1,6 @@
 -- What the code's chunks and lists of chunks say, under the lenient order. Assumes nothing.
 use Rattle.std.specs.Prelude.{List, take}
-use Rattle.texts.specs.Piece.{Piece}
+use Rattle.chunk.specs.Piece.{Piece}
 use Rattle.order.specs.Orders.{Order}
 use Rattle.chunk.specs.Said.{says}
 use Rattle.chunk.specs.Tables.{listed_in}

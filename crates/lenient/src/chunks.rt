@@ -6,7 +6,6 @@ ghost use Rattle.chunk.specs.Tables.{listed_in};
 ghost use Rattle.lenient.specs.Said.{leniently, first_in};
 
 use crate::ordering::ByLenient;
-use chunk::chunk::Chunk;
 use chunk::chunks::ChunksIn;
 use order::Parts;
 
@@ -33,10 +32,8 @@ impl<'a> Parts for FirstChunks<'a> {
     }
 
     fn part(&self, i: usize) -> ByLenient<'a> {
-        match self.chunks.get(i) {
-            Some(chunk) => ByLenient(chunk),
-            None => ByLenient(Chunk::Numeric(0)),
-        }
+        let ChunksIn { text, chunks } = self.chunks;
+        ByLenient(chunks.as_slice()[i].in_text(text))
     }
 
     fn agrees()

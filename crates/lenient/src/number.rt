@@ -9,8 +9,6 @@ use parsers::digits_at;
 pub fn lenient_number(text: &[u8]) -> Option<u32>
     ensures { result ≡ lenient_number text.now }
 {
-    match digits_at(text, 0) {
-        Some((number, _)) => Some(number),
-        None => None,
-    }
+    let (number, _) = digits_at(text, 0)?;
+    Some(number)
 }

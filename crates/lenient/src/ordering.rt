@@ -13,7 +13,7 @@ use order::{ElementOrder, compare_texts};
 use std::cmp::Ordering;
 
 /// The lenient number of a chunk: its number, or that of its text.
-pub fn single_digit_lenient(chunk: &Chunk<'_>) -> Option<u32>
+pub fn single_digit_lenient(chunk: &Chunk<&[u8]>) -> Option<u32>
     ensures { result ≡ lenient_of (says chunk.now) }
 {
     match *chunk {
@@ -59,7 +59,7 @@ fn meet(number: u32, text: &[u8]) -> Ordering
 }
 
 /// The lenient order of two chunks.
-pub fn cmp_lenient(a: &Chunk<'_>, b: &Chunk<'_>) -> Ordering
+pub fn cmp_lenient(a: &Chunk<&[u8]>, b: &Chunk<&[u8]>) -> Ordering
     ensures { result ≡ lenient_order (says a.now) (says b.now) }
 {
     match (*a, *b) {
@@ -72,7 +72,7 @@ pub fn cmp_lenient(a: &Chunk<'_>, b: &Chunk<'_>) -> Ordering
 
 /// A chunk under `cmp_lenient`, which is no strict order.
 #[derive(Clone, Copy)]
-pub struct ByLenient<'a>(pub Chunk<'a>);
+pub struct ByLenient<'a>(pub Chunk<&'a [u8]>);
 
 impl<'a> ElementOrder for ByLenient<'a> {
     ghost order = { leniently };
@@ -87,9 +87,9 @@ pub fn lenient_ring() -> (Ordering, Ordering, Ordering)
     ensures ring { result ≡ (Less, Less, Less) }
     ensures unstrict { Strict lenient_order → ⊥ }
 {
-    let nine = Chunk::Alphanum(b"9a");
-    let ten = Chunk::Alphanum(b"10a");
-    let large = Chunk::Alphanum(b"4294967296a");
+    let nine: Chunk<&[u8]> = Chunk::Alphanum(b"9a");
+    let ten: Chunk<&[u8]> = Chunk::Alphanum(b"10a");
+    let large: Chunk<&[u8]> = Chunk::Alphanum(b"4294967296a");
     (
         cmp_lenient(&nine, &ten),
         cmp_lenient(&ten, &large),

@@ -9,7 +9,7 @@ use Rattle.std.proofs.lemmas.Str.Parse.{IsNumeralModel, numerals_by_weight, tell
 use Rattle.std.proofs.lemmas.Bool.{and_from, cond-false, ne_eqb}
 use Rattle.std.proofs.lemmas.Bool.Decides.{nat_tests}
 use Rattle.parsers.specs.Grammar.{limit}
-use Rattle.texts.specs.Piece.{Piece, numeric, alphanum}
+use Rattle.chunk.specs.Piece.{Piece, numeric, alphanum}
 use Rattle.standard.specs.Parts.{Parts, Capped, Within}
 use Rattle.standard.specs.Grammar as g
 use Rattle.standard.specs.Grammar.{PositiveDigit, Digit, Digits, NonDigit, IdentifierCharacter, IdentifierCharacters, NumericIdentifier, AlphanumericIdentifier, PreReleaseIdentifier, PreRelease, VersionCore, ValidSemver}

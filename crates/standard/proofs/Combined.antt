@@ -6,7 +6,7 @@ use Rattle.parsers.specs.Reading.{number_of, behind_of, perhaps_of, meta_of}
 use Rattle.parsers.specs.Whole.{Whole}
 use Rattle.parsers.proofs.Joining.{Stops, follow_found, Front, Reads, perhaps_sound, perhaps_complete, behind_reads, none_behind, stops_perhaps, whole}
 use Rattle.parsers.proofs.Parts.{number_reads, meta_reads}
-use Rattle.texts.specs.Piece.{Piece}
+use Rattle.chunk.specs.Piece.{Piece}
 use Rattle.chunk.specs.Grammar.{Released}
 use Rattle.chunk.specs.Reading.{release_of}
 use Rattle.chunk.proofs.Chunking.{release_reads}

@@ -4,7 +4,7 @@ use Rattle.std.specs.Cmp.{ranks, nat_cmp_is, means, below_irrefl, below_chain}
 use Rattle.std.specs.Ordering.{ordering_index, ordering_reverse, ordering_then, MatchOrdering, nat_cmp}
 use Rattle.order.specs.Lists.{lex}
 use Rattle.order.specs.Numbers.{number_strict}
-use Rattle.texts.specs.Piece.{Piece, numeric, alphanum}
+use Rattle.chunk.specs.Piece.{Piece, numeric, alphanum}
 use Rattle.chunk.specs.Semver.{semver_order, semver_strict}
 use Rattle.standard.specs.Parts.{Parts}
 use Rattle.standard.specs.Precedence.{TextLower, byte, shorter, IdentifierLower, numerically, lexically, below_others, ReleaseLower, difference, larger_set, SameCore, Lower, by_major, by_minor, by_patch, pre_release, by_identifiers, Level}

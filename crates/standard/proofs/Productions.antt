@@ -6,10 +6,11 @@ use Rattle.std.specs.Int.{is_in_range}
 use Rattle.std.proofs.ByRecursion.{All-append, All-weaker}
 use Rattle.std.proofs.lemmas.Bool.{cases_Bool, cases_eq, eqb-true, or_parts, or_cases, or_left, or_right, both_ways}
 use Rattle.std.proofs.lemmas.Bool.Decides.{nat_tests}
-use Rattle.parsers.specs.Bytes.{letter_or_hyphen, or_digit, Each, any}
+use Rattle.std.specs.List.{list_any}
+use Rattle.parsers.specs.Bytes.{letter_or_hyphen, or_digit, Each}
 use Rattle.parsers.specs.Grammar as g
 use Rattle.parsers.specs.Grammar.{limit, worth, Number, Stretch, stretch, Behind, Many, Dotted, dotted, Perhaps, absent, present, spelled, Metadata}
-use Rattle.texts.specs.Piece.{Piece, numeric, alphanum}
+use Rattle.chunk.specs.Piece.{Piece, numeric, alphanum}
 use Rattle.chunk.specs.Grammar.{Chunked, number, word, Released}
 use Rattle.standard.specs.Parts.{Parts, Capped, CappedRelease, Within}
 use Rattle.standard.specs.Grammar as s
@@ -97,9 +98,9 @@ number_from (g.digits {b} {w} l e h) = (subst (NumericIdentifier (b ∷ w)) (sym
 
 -- words
 abbrev Word : List ℕ → Type 0
-Word w = Each (or_digit letter_or_hyphen) w × (any letter_or_hyphen w ≡ true)
+Word w = Each (or_digit letter_or_hyphen) w × (list_any letter_or_hyphen w ≡ true)
 
-any_at : (q : ℕ → Bool) (v w : List ℕ) (b : ℕ) → q b ≡ true → any q (v ++ (b ∷ w)) ≡ true
+any_at : (q : ℕ → Bool) (v w : List ℕ) (b : ℕ) → q b ≡ true → list_any q (v ++ (b ∷ w)) ≡ true
 any_at q [] w b e = or_left _ _ e
 any_at q (c ∷ v) w b e = or_right _ _ (any_at q v w b e)
 
@@ -148,7 +149,7 @@ stretch_to {w} (s.alphanumeric a) = go w (word_to a)
 stretch_to (s.digits (s.one d)) = (_, stretch (or_left _ _ (digit_to d), tt))
 stretch_to (s.digits (s.more {w = w} d o)) = (_, stretch (or_left _ _ (digit_to d), All-weaker _ _ (λ b d. or_left _ _ d) w (digits_to o)))
 
-all_digits : (w : List ℕ) → Each (or_digit letter_or_hyphen) w → any letter_or_hyphen w ≡ false → Each is_ascii_digit w
+all_digits : (w : List ℕ) → Each (or_digit letter_or_hyphen) w → list_any letter_or_hyphen w ≡ false → Each is_ascii_digit w
 all_digits [] e h = tt
 all_digits (b ∷ w) e h =
     let p = or_parts _ _ h in
@@ -156,7 +157,7 @@ all_digits (b ∷ w) e h =
 
 stretch_from : {w c : List ℕ} → Stretch (or_digit letter_or_hyphen) w c → BuildIdentifier w
 stretch_from (stretch {b} {w} e) =
-    ⊎_elim (λ h. s.alphanumeric (word_from (b ∷ w) (e, h))) (λ h. s.digits (digits_from b w (all_digits (b ∷ w) e h)).1) (cases_Bool (any letter_or_hyphen (b ∷ w)))
+    ⊎_elim (λ h. s.alphanumeric (word_from (b ∷ w) (e, h))) (λ h. s.digits (digits_from b w (all_digits (b ∷ w) e h)).1) (cases_Bool (list_any letter_or_hyphen (b ∷ w)))
 
 -- identifiers joined by dots
 module _ {C : Type 0} (Q : List ℕ → C → Type 0) where

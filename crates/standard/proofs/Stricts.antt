@@ -5,7 +5,7 @@ use Rattle.order.specs.Laws.{NotGreater, Strict}
 use Rattle.order.specs.Lists.{lex}
 use Rattle.order.specs.Carry.{lex_strict, then_strict, by_strict}
 use Rattle.order.specs.Numbers.{number_strict}
-use Rattle.texts.specs.Piece.{Piece}
+use Rattle.chunk.specs.Piece.{Piece}
 use Rattle.chunk.specs.Semver.{semver_order, semver_strict}
 use Rattle.standard.specs.Parts.{Parts}
 use Rattle.standard.specs.Order.{release_order}

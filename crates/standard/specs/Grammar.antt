@@ -1,7 +1,7 @@
 -- The grammar of Semantic Versioning 2.0.0, production by production under the standard's names,
 -- as a relation of whole texts and their parts. Assumes nothing.
 use Rattle.std.specs.Prelude.{ℕ, ◌+◌, ◌-◌, ◌*◌, ◌^◌, ◌≤◌, List, [], ◌∷◌, ◌++◌, length, Some, None}
-use Rattle.texts.specs.Piece.{Piece, numeric, alphanum}
+use Rattle.chunk.specs.Piece.{Piece, numeric, alphanum}
 use Rattle.standard.specs.Parts.{Parts}
 
 -- <letter> ::= "A" .. "Z" | "a" .. "z"

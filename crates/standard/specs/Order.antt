@@ -4,7 +4,7 @@ use Rattle.std.specs.declared.cmp.Ordering.TheVariants.{Less, Equal, Greater}
 use Rattle.std.specs.declared.cmp.Ordering.{Ordering}
 use Rattle.std.specs.Ordering.{ordering_then, nat_cmp}
 use Rattle.order.specs.Lists.{lex}
-use Rattle.texts.specs.Piece.{Piece}
+use Rattle.chunk.specs.Piece.{Piece}
 use Rattle.chunk.specs.Semver.{semver_order}
 use Rattle.standard.specs.Parts.{Parts}
 

@@ -1,6 +1,6 @@
 -- The parts of an Ideal label. Assumes nothing.
 use Rattle.std.specs.Prelude.{ℕ, ◌≤◌, List, [], ◌∷◌, Some, None, Option}
-use Rattle.texts.specs.Piece.{Piece, numeric, alphanum}
+use Rattle.chunk.specs.Piece.{Piece, numeric, alphanum}
 
 -- three numbers, the identifiers of the Release, the text of the metadata without its plus sign
 pub record Parts : Type 0 where

@@ -1,6 +1,6 @@
 -- The precedence of Semantic Versioning 2.0.0, as the standard tells it. Assumes nothing.
 use Rattle.std.specs.Prelude.{◌≡◌, ℕ, ◌<◌, List, ◌∷◌, ◌++◌, Some, None}
-use Rattle.texts.specs.Piece.{Piece, numeric, alphanum}
+use Rattle.chunk.specs.Piece.{Piece, numeric, alphanum}
 use Rattle.standard.specs.Parts.{Parts}
 
 -- A text comes before another in ASCII order.

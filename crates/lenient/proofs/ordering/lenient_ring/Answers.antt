@@ -1,5 +1,5 @@
 use Rattle.std.proofs.Common.{codes}
-use Rattle.texts.specs.Piece.{alphanum}
+use Rattle.chunk.specs.Piece.{alphanum}
 use Rattle.lenient.proofs.ordering.lenient_ring.Goals as goal
 
 pub returns : goal.returns
