@@ -19,14 +19,12 @@ stands Less p n = refl
 stands Equal p n = absurd (n refl)
 stands Greater p n = refl
 
-module _ (p q : Parts) (major minor patch : Ordering) {behind numbers : Ordering} (M : major ≡ nat_cmp p.major q.major) (m : minor ≡ nat_cmp p.minor q.minor) (k : patch ≡ nat_cmp p.patch q.patch)
-    (b : behind ≡ ordering_then minor patch) (n : numbers ≡ ordering_then major behind) where
+-- the numbers, and where they are the same the Releases
+module _ (p q : Parts) {numbers : Ordering} (n : numbers ≡ ordering_then (ordering_then (nat_cmp p.major q.major) (nat_cmp p.minor q.minor)) (nat_cmp p.patch q.patch)) where
   joined : ordering_then numbers (release_order p.release q.release) ≡ ideal_order p q
   joined =
       let r = release_order p.release q.release in
-      let i : numbers ≡ ordering_then (nat_cmp p.major q.major) (ordering_then (nat_cmp p.minor q.minor) (nat_cmp p.patch q.patch)) = rw (n, b, M, m, k) refl in
-      ap (λ o. ordering_then o r) i ∙ assoc (nat_cmp p.major q.major) (ordering_then (nat_cmp p.minor q.minor) (nat_cmp p.patch q.patch)) r
-      ∙ ap (ordering_then (nat_cmp p.major q.major)) (assoc (nat_cmp p.minor q.minor) (nat_cmp p.patch q.patch) r)
+      ap (λ o. ordering_then o r) n ∙ assoc (ordering_then (nat_cmp p.major q.major) (nat_cmp p.minor q.minor)) (nat_cmp p.patch q.patch) r ∙ assoc (nat_cmp p.major q.major) (nat_cmp p.minor q.minor) (ordering_then (nat_cmp p.patch q.patch) r)
 
   -- the numbers are the same
   pub level : numbers ≡ Equal → {o : Ordering} → o ≡ release_order p.release q.release → o ≡ ideal_order p q

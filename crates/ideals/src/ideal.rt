@@ -4,14 +4,15 @@ ghost use Rattle.std.specs.Ordering.{nat_cmp, ordering_then};
 ghost use Rattle.std.specs.Option.{option_map};
 ghost use Rattle.order.specs.Laws.{Strict};
 ghost use Rattle.order.specs.Orders.{Same};
-ghost use Rattle.chunk.specs.Tables.{view_in};
+ghost use Rattle.chunk.specs.Tables.{listed_in};
 ghost use Rattle.standard.specs.Order.{ideal_order, release_order};
 ghost use Rattle.standard.specs.Theorems.{Standard, Iff};
 ghost use Rattle.ideals.specs.Ranges.{Tilde, Caret};
 ghost use Rattle.ideals.specs.Views.{parts_of, ideally, Agreement};
 
 use crate::semver::SemVer;
-use chunk::release::{ReleaseIn, compare_releases};
+use chunk::chunks::ChunksIn;
+use chunk::release::compare_perhaps_releases;
 use order::{ElementOrder, StrictOrder};
 use std::cmp::Ordering;
 
@@ -24,38 +25,26 @@ pub struct IdealIn<'a> {
 
 impl<'a> IdealIn<'a> {
     /// The Release, as the list of its chunks.
-    pub fn release(&self) -> Option<ReleaseIn<'a>>
-        ensures { option_map view_in result ≡ (parts_of self.now).release }
+    pub fn release(&self) -> Option<ChunksIn<'a>>
+        ensures { option_map listed_in result ≡ (parts_of self.now).release }
     {
-        match &self.semver.pre_rel {
-            Some(release) => Some(ReleaseIn {
-                text: self.text,
-                release,
-            }),
-            None => None,
-        }
+        let text = self.text;
+        let chunks = &self.semver.pre_rel.as_ref()?.chunks;
+        Some(ChunksIn { text, chunks })
     }
 
     /// The metadata, without its plus sign.
     pub fn meta(&self) -> Option<&'a [u8]>
         ensures { option_map (λ x. x.now) result ≡ (parts_of self.now).meta }
     {
-        match self.semver.meta {
-            Some(span) => Some(span.bytes(self.text)),
-            None => None,
-        }
+        self.semver.meta.map(|span| span.bytes(self.text))
     }
 
     /// How two Releases compare; without one an Ideal is Greater.
     fn cmp_release(&self, other: &IdealIn<'_>) -> Ordering
         ensures { result ≡ release_order (parts_of self.now).release (parts_of other.now).release }
     {
-        match (self.release(), other.release()) {
-            (None, None) => Ordering::Equal,
-            (None, Some(_)) => Ordering::Greater,
-            (Some(_), None) => Ordering::Less,
-            (Some(a), Some(b)) => compare_releases(a, b),
-        }
+        compare_perhaps_releases(self.release(), other.release(), Ordering::Greater)
     }
 
     /// The order of Ideals: the numbers first, then the Releases. It is the standard's precedence.
@@ -66,8 +55,8 @@ impl<'a> IdealIn<'a> {
     {
         let a = self.semver;
         let b = other.semver;
-        let behind = a.minor.cmp(&b.minor).then(a.patch.cmp(&b.patch));
-        match a.major.cmp(&b.major).then(behind) {
+        match (a.major, a.minor, a.patch).cmp(&(b.major, b.minor, b.patch)) {
+            // no `then_with`: a closure that holds the labels would need its contract written out
             Ordering::Equal => self.cmp_release(other),
             decided => decided,
         }

@@ -8,10 +8,9 @@ ghost use Rattle.standard.specs.Reading.{ideal_of};
 ghost use Rattle.standard.specs.Theorems.{Ideal as StandardIdeal};
 ghost use Rattle.ideals.specs.Labels.{parts_in, read_in};
 
-use chunk::perhaps::{perhaps_meta, perhaps_release};
 use chunk::release::Release;
 use fault::LabelFault;
-use parsers::{mark, unsigned};
+use parsers::{mark, meta, opt, unsigned, whole};
 use texts::check_length;
 use texts::table::Span;
 use texts::text::Text;
@@ -31,23 +30,24 @@ impl SemVer {
     fn read(text: Text<'_>) -> Option<(SemVer, usize)>
         ensures { Gives (parts_in (bytes_of text.entry)) ideal_of (bytes_of text.entry) 0 result }
     {
-        let Some((major, at)) = unsigned(text, 0) else {
+        // every cursor step has its own `let .. else`, as the parts are read one behind the other
+        let Some((major, at)) = unsigned(text.bytes, 0) else {
             return None;
         };
-        let Some(at) = mark(text, at, b'.') else {
+        let Some(at) = mark(text.bytes, at, b'.') else {
             return None;
         };
-        let Some((minor, at)) = unsigned(text, at) else {
+        let Some((minor, at)) = unsigned(text.bytes, at) else {
             return None;
         };
-        let Some(at) = mark(text, at, b'.') else {
+        let Some(at) = mark(text.bytes, at, b'.') else {
             return None;
         };
-        let Some((patch, at)) = unsigned(text, at) else {
+        let Some((patch, at)) = unsigned(text.bytes, at) else {
             return None;
         };
-        let (pre_rel, at) = perhaps_release(text, at);
-        let (meta, at) = perhaps_meta(text, at);
+        let (pre_rel, at) = opt(Release::parse(text, at), at);
+        let (meta, at) = opt(meta(text, at), at);
         let semver = SemVer {
             major,
             minor,
@@ -63,13 +63,8 @@ impl SemVer {
     pub fn parse(text: &[u8]) -> Result<(SemVer, usize), LabelFault>
         ensures { told (read_in text.now) result ≡ parsed_by ideal_of text.now }
     {
-        if let Err(fault) = check_length(text) {
-            return Err(fault);
-        }
-        match SemVer::read(Text::new(text)) {
-            Some(found) => Ok(found),
-            None => Err(LabelFault::NoForm(0)),
-        }
+        check_length(text)?;
+        SemVer::read(Text::new(text)).ok_or(LabelFault::NoForm(0))
     }
 
     /// The Ideal that a text is, or the fault: those of `parse`, and 3 with the bytes read where something is left over.
@@ -77,15 +72,6 @@ impl SemVer {
         ensures answer { told (parts_in text.now) result ≡ new_by ideal_of text.now }
         ensures standard { NewReads StandardIdeal text.now (told (parts_in text.now) result) }
     {
-        match SemVer::parse(text) {
-            Ok((semver, read)) => {
-                if read == text.len() {
-                    Ok(semver)
-                } else {
-                    Err(LabelFault::NoForm(read))
-                }
-            }
-            Err(fault) => Err(fault),
-        }
+        whole(SemVer::parse(text)?, text)
     }
 }
