@@ -1,21 +1,15 @@
 -- Orders put together keep both laws. Assumes nothing.
-use Rattle.std.specs.Prelude.{◌≡◌, refl}
-use Rattle.std.specs.declared.cmp.Ordering.TheVariants.{Less, Equal, Greater}
 use Rattle.std.specs.declared.cmp.Ordering.{Ordering}
 use Rattle.std.proofs.Common.{◌∙◌}
-use Rattle.std.specs.Ordering.{ordering_reverse, ordering_then}
+use Rattle.std.specs.Cmp.{then_flip}
+use Rattle.std.specs.Ordering.{ordering_then}
 use Rattle.order.specs.Laws.{Balanced}
-
-pub then_back : (a b : Ordering) → ordering_then (ordering_reverse a) (ordering_reverse b) ≡ ordering_reverse (ordering_then a b)
-then_back Less b = refl
-then_back Equal b = refl
-then_back Greater b = refl
 
 module _ {X : Type 0} {cmp : X → X → Ordering} (b : Balanced cmp) where
   -- one order, then another of the same values
   pub then_balanced : {next : X → X → Ordering} → Balanced next → Balanced (λ x y. ordering_then (cmp x y) (next x y))
   then_balanced {next = next} n = record {
-    swapped = λ x y. (λ i. ordering_then (b.swapped x y i) (n.swapped x y i)) ∙ then_back (cmp x y) (next x y);
+    swapped = λ x y. (λ i. ordering_then (b.swapped x y i) (n.swapped x y i)) ∙ then_flip (cmp x y) (next x y);
     itself = λ x i. ordering_then (b.itself x i) (n.itself x i);
   }
 

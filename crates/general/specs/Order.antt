@@ -9,8 +9,8 @@ use Rattle.order.specs.Carry.{lex_balanced}
 use Rattle.order.specs.Laws.{Balanced}
 use Rattle.order.specs.Lists.{lex}
 use Rattle.order.specs.Numbers.{number_balanced}
-use Rattle.texts.specs.Piece as piece
-use Rattle.texts.specs.Piece.{Piece}
+use Rattle.chunk.specs.Piece as piece
+use Rattle.chunk.specs.Piece.{Piece}
 use Rattle.chunk.specs.Semver.{semver_order, semver_balanced}
 use Rattle.lenient.specs.Order.{lenient_order, lenient_balanced, twice}
 use Rattle.version.specs.Parts.{Parts}

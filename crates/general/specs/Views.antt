@@ -1,9 +1,8 @@
 -- What a General label beside its text says, and the orders of Lasts and Generals. Assumes nothing.
 use Rattle.order.specs.Orders.{Order}
-use Rattle.version.specs.Parts.{LastPart, numeric, rc, post, alphanum, Parts}
-use Rattle.version.specs.Labels.{parts_in}
+use Rattle.version.specs.Parts.{LastPart, Parts}
+use Rattle.version.specs.Labels.{parts_in, last_said as said}
 use Rattle.general.specs.declared.last.LastIn.{LastIn}
-use Rattle.general.specs.declared.last.LastIn.TheVariants.{Numeric, Rc, Post, Alphanum}
 use Rattle.general.specs.declared.general.VersionIn.{VersionIn}
 use Rattle.general.specs.Lasts.{last_order, last_balanced}
 use Rattle.general.specs.Order.{general_order, general_balanced}
@@ -13,10 +12,7 @@ parts_of x = parts_in x.text.now x.version.now
 
 -- what a Last that is handed out says
 abbrev pub last_said : LastIn → LastPart
-last_said (Numeric n) = numeric n
-last_said (Rc a s b) = rc a s.now b
-last_said (Post a s) = post a s.now
-last_said (Alphanum s) = alphanum s.now
+last_said l = said l.0
 
 -- Lasts under `cmp`
 abbrev pub lastly : Order LastIn

@@ -2,15 +2,15 @@
 ghost use Rattle.std.specs.Prelude.{◌≡◌, length, take};
 ghost use Rattle.std.specs.Option.{option_map};
 ghost use Rattle.order.specs.Lists.{lex};
-ghost use Rattle.chunk.specs.Tables.{listed_in, view_in};
+ghost use Rattle.chunk.specs.Tables.{listed_in};
 ghost use Rattle.lenient.specs.Order.{lenient_order};
 ghost use Rattle.version.specs.Reading.{last_of};
-ghost use Rattle.general.specs.Order.{chunk_at, release_order, level_order, longer_order, body_order, general_order, HigherEpoch};
+ghost use Rattle.general.specs.Order.{era, chunk_at, release_order, level_order, longer_order, body_order, general_order, HigherEpoch};
 ghost use Rattle.general.specs.Views.{parts_of, last_said, generally};
 
 use crate::last::LastIn;
 use chunk::chunks::ChunksIn;
-use chunk::release::{ReleaseIn, compare_releases};
+use chunk::release::compare_perhaps_releases;
 use lenient::chunks::FirstChunks;
 use order::{ElementOrder, Parts, compare_lists};
 use std::cmp::Ordering;
@@ -32,12 +32,19 @@ impl<'a> VersionIn<'a> {
         self.version.epoch
     }
 
+    /// The epoch, absent counting 0.
+    pub fn epoch_or_zero(&self) -> u32
+        ensures { result ≡ era (parts_of self.now) }
+    {
+        self.epoch().unwrap_or(0)
+    }
+
     /// The chunks before the Last, as a list.
     pub fn chunks(&self) -> ChunksIn<'a>
         ensures { listed_in result ≡ (parts_of self.now).chunks }
     {
         let text = self.text;
-        let chunks = &self.version.chunks;
+        let chunks = &self.version.chunks.chunks;
         ChunksIn { text, chunks }
     }
 
@@ -49,26 +56,19 @@ impl<'a> VersionIn<'a> {
     }
 
     /// The Release, as the list of its chunks.
-    pub fn release(&self) -> Option<ReleaseIn<'a>>
-        ensures { option_map view_in result ≡ (parts_of self.now).release }
+    pub fn release(&self) -> Option<ChunksIn<'a>>
+        ensures { option_map listed_in result ≡ (parts_of self.now).release }
     {
-        match &self.version.release {
-            Some(release) => Some(ReleaseIn {
-                text: self.text,
-                release,
-            }),
-            None => None,
-        }
+        let text = self.text;
+        let chunks = &self.version.release.as_ref()?.chunks;
+        Some(ChunksIn { text, chunks })
     }
 
     /// The metadata, without its plus sign.
     pub fn meta(&self) -> Option<&'a [u8]>
         ensures { option_map (λ x. x.now) result ≡ (parts_of self.now).meta }
     {
-        match self.version.meta {
-            Some(span) => Some(span.bytes(self.text)),
-            None => None,
-        }
+        self.version.meta.map(|span| span.bytes(self.text))
     }
 
     /// The first chunks of both, at most `count` of each, under `cmp_lenient`.
@@ -90,22 +90,19 @@ impl<'a> VersionIn<'a> {
     fn cmp_release(&self, other: &VersionIn<'_>) -> Ordering
         ensures { result ≡ release_order (parts_of self.now).release (parts_of other.now).release }
     {
-        match (self.release(), other.release()) {
-            (None, None) => Ordering::Equal,
-            (None, Some(_)) => Ordering::Less,
-            (Some(_), None) => Ordering::Greater,
-            (Some(a), Some(b)) => compare_releases(a, b),
-        }
+        compare_perhaps_releases(self.release(), other.release(), Ordering::Less)
     }
 
     /// The chunk at an index, made a Last.
     fn as_last(&self, i: usize) -> LastIn<'a>
         ensures { last_said result ≡ last_of (chunk_at (parts_of self.now).chunks i) }
     {
-        match self.version.chunks.chunks.get(i) {
-            Some(chunk) => LastIn::new(self.text, Last::new(self.text, chunk)),
-            None => LastIn::Numeric(0),
-        }
+        let text = self.text;
+        let chunk = self.version.chunks.chunks.get(i);
+        chunk.map_or(
+            LastIn(Last::Numeric(0)),
+            |chunk| LastIn::new(text, Last::new(text, chunk)),
+        )
     }
 
     /// Two Generals with equally many chunks, without their epochs.
@@ -114,6 +111,7 @@ impl<'a> VersionIn<'a> {
         ensures { result ≡ level_order (parts_of self.now) (parts_of other.now) }
     {
         match self.cmp_chunks(other, self.chunks().len()) {
+            // not `then_with`: a closure that captures a view ensures nothing to its caller (tried)
             Ordering::Equal => match self.last().cmp(&other.last()) {
                 Ordering::Equal => self.cmp_release(other),
                 decided => decided,
@@ -128,6 +126,7 @@ impl<'a> VersionIn<'a> {
     {
         let count = shorter.chunks().len();
         match self.cmp_chunks(shorter, count) {
+            // not `then_with`: as in `cmp_level`
             Ordering::Equal => {
                 let next = self.as_last(count);
                 next.cmp(&shorter.last()).then(Ordering::Greater)
@@ -152,9 +151,8 @@ impl<'a> VersionIn<'a> {
         ensures answer { result ≡ general_order (parts_of self.now) (parts_of other.now) }
         ensures epochs { HigherEpoch (parts_of self.now) (parts_of other.now) result }
     {
-        let a = self.epoch().unwrap_or(0);
-        let b = other.epoch().unwrap_or(0);
-        match a.cmp(&b) {
+        match self.epoch_or_zero().cmp(&other.epoch_or_zero()) {
+            // not `then_with`: as in `cmp_level`
             Ordering::Equal => self.cmp_body(other),
             decided => decided,
         }

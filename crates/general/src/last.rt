@@ -8,50 +8,44 @@ ghost use Rattle.general.specs.Views.{last_said, lastly};
 
 use order::{ElementOrder, compare_texts};
 use std::cmp::Ordering;
+use texts::table::Span;
 use version::last::Last;
 
-/// A Last beside its text.
+/// A Last that is handed out, under the order of Lasts.
 #[derive(Clone, Copy)]
-pub enum LastIn<'a> {
-    Numeric(u32),
-    Rc(u32, &'a [u8], u32),
-    Post(u32, &'a [u8]),
-    Alphanum(&'a [u8]),
-}
+pub struct LastIn<'a>(pub Last<&'a [u8]>);
 
 impl<'a> LastIn<'a> {
     /// What a Last is in its text.
-    pub fn new(text: &'a [u8], last: Last) -> LastIn<'a>
+    pub fn new(text: &'a [u8], last: Last<Span>) -> LastIn<'a>
         ensures { last_said result ≡ last_in text.now last }
     {
-        match last {
-            Last::Numeric(number) => LastIn::Numeric(number),
-            Last::Rc(a, letters, b) => LastIn::Rc(a, letters.bytes(text), b),
-            Last::Post(a, letters) => LastIn::Post(a, letters.bytes(text)),
-            Last::Alphanum(word) => LastIn::Alphanum(word.bytes(text)),
-        }
+        LastIn(last.in_text(text))
     }
 
     /// The order of Lasts.
     pub fn cmp(&self, other: &LastIn<'_>) -> Ordering
         ensures { result ≡ last_order (last_said self.now) (last_said other.now) }
     {
-        match (*self, *other) {
-            (LastIn::Alphanum(s), LastIn::Alphanum(t)) => compare_texts(s, t),
-            (LastIn::Alphanum(_), _) => Ordering::Less,
-            (_, LastIn::Alphanum(_)) => Ordering::Greater,
-            (LastIn::Numeric(a), LastIn::Numeric(b)) => a.cmp(&b),
-            (LastIn::Numeric(a), LastIn::Rc(b, _, _) | LastIn::Post(b, _)) => {
+        match (self.0, other.0) {
+            (Last::Alphanum(s), Last::Alphanum(t)) => compare_texts(s, t),
+            (Last::Alphanum(_), _) => Ordering::Less,
+            (_, Last::Alphanum(_)) => Ordering::Greater,
+            (Last::Numeric(a), Last::Numeric(b)) => a.cmp(&b),
+            (Last::Numeric(a), Last::Rc(b, _, _) | Last::Post(b, _)) => {
                 a.cmp(&b).then(Ordering::Greater)
             }
-            (LastIn::Rc(a, _, _) | LastIn::Post(a, _), LastIn::Numeric(b)) => {
+            (Last::Rc(a, _, _) | Last::Post(a, _), Last::Numeric(b)) => {
                 a.cmp(&b).then(Ordering::Less)
             }
-            (LastIn::Rc(a, s, m), LastIn::Rc(b, t, n)) => {
-                a.cmp(&b).then(compare_texts(s, t)).then(m.cmp(&n))
+            (Last::Rc(a, s, m), Last::Rc(b, t, n)) => {
+                a.cmp(&b)
+                    .then_with(|| compare_texts(s, t))
+                    .then_with(|| m.cmp(&n))
             }
-            (LastIn::Rc(a, s, _) | LastIn::Post(a, s), LastIn::Rc(b, t, _) | LastIn::Post(b, t)) =>
-                { a.cmp(&b).then(compare_texts(s, t)) }
+            (Last::Rc(a, s, _) | Last::Post(a, s), Last::Rc(b, t, _) | Last::Post(b, t)) => {
+                a.cmp(&b).then_with(|| compare_texts(s, t))
+            }
         }
     }
 }
@@ -69,8 +63,8 @@ pub fn last_ties() -> (Ordering, Ordering, Ordering)
     ensures ties { result ≡ (Equal, Equal, Greater) }
     ensures unstrict { Strict last_order → ⊥ }
 {
-    let third = LastIn::Rc(1, b"rc", 3);
-    let none = LastIn::Post(1, b"rc");
-    let second = LastIn::Rc(1, b"rc", 2);
+    let third = LastIn(Last::Rc(1, b"rc", 3));
+    let none = LastIn(Last::Post(1, b"rc"));
+    let second = LastIn(Last::Rc(1, b"rc", 2));
     (third.cmp(&none), none.cmp(&second), third.cmp(&second))
 }

@@ -8,8 +8,8 @@ use Rattle.parsers.specs.Bytes.{or_digit, Each}
 use Rattle.parsers.specs.Grammar.{Number, dotted}
 use Rattle.parsers.specs.Reading.{span, perhaps_of, behind_of, number_of, meta_of}
 use Rattle.parsers.specs.Whole.{Whole}
-use Rattle.texts.specs.Piece as piece
-use Rattle.texts.specs.Piece.{Piece}
+use Rattle.chunk.specs.Piece as piece
+use Rattle.chunk.specs.Piece.{Piece}
 use Rattle.parsers.proofs.Joining.{Stops, follow_found, Front, Reads, perhaps_sound, perhaps_complete, stops_many, none_behind, starts_behind, stops_perhaps, whole}
 use Rattle.parsers.proofs.Parts.{span_complete, number_each, number_reads, meta_reads}
 use Rattle.chunk.specs.Grammar.{Chunks}

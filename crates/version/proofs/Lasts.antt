@@ -5,8 +5,8 @@ use Rattle.std.proofs.lemmas.Bool.Decides.{nat_tests}
 use Rattle.parsers.specs.Grammar.{Grammar, Number, nought, digits, Stretch, stretch}
 use Rattle.parsers.specs.Reading.{Reader, follow, number_of, stretch_of}
 use Rattle.parsers.specs.Whole.{Whole}
-use Rattle.texts.specs.Piece as piece
-use Rattle.texts.specs.Piece.{Piece}
+use Rattle.chunk.specs.Piece as piece
+use Rattle.chunk.specs.Piece.{Piece}
 use Rattle.parsers.proofs.Joining.{Stops, follow_found, Front, Reads, some_same, whole}
 use Rattle.parsers.proofs.Parts.{number_reads, stretch_reads}
 use Rattle.version.specs.Parts.{LastPart, alphanum}

@@ -4,14 +4,16 @@ use Rattle.std.specs.Option.{option_map}
 use Rattle.std.specs.Char.{is_ascii_alphabetic}
 use Rattle.std.proofs.lemmas.List.{map_push}
 use Rattle.std.proofs.lemmas.Bool.{cond-true, cond-false, eq-eqb, ne_eqb}
-use Rattle.texts.specs.declared.table.Entry.{Entry}
-use Rattle.texts.specs.Piece as piece
-use Rattle.texts.specs.Piece.{Piece}
-use Rattle.texts.specs.Tables.{piece_in, count_of, entries_of, Taken, Popped}
+use Rattle.texts.specs.declared.table.Span.{Span}
+use Rattle.chunk.specs.Piece as piece
+use Rattle.chunk.specs.Piece.{Piece}
+use Rattle.texts.specs.Tables.{rows_of, Taken, Popped}
+use Rattle.chunk.specs.declared.chunk.Chunk.{Chunk}
+use Rattle.chunk.specs.Said.{piece_in, chunk_part}
 use Rattle.parsers.proofs.Lists.{not_empty, said_counted, handed_out}
 use Rattle.chunk.specs.declared.chunks.Chunks.{Chunks}
 use Rattle.chunk.specs.Reading.{chunk_of, chunks_of}
-use Rattle.chunk.specs.Tables.{plain_part, chunks_in}
+use Rattle.chunk.specs.Tables.{chunks_in}
 use Rattle.version.specs.declared.last.Last.{Last}
 use Rattle.version.specs.declared.version.Version.{Version}
 use Rattle.version.specs.Labels.{last_in, parts_in}
@@ -24,18 +26,18 @@ mapped_same None = refl
 mapped_same (Some n) = refl
 
 -- there is a last chunk
-pub no_chunks : (text bs rest : List ℕ) (all : Chunks) → chunks_of bs ≡ Some (chunks_in text all, rest) → entries_of all.chunks ≡ [] → ⊥
+pub no_chunks : (text bs rest : List ℕ) (all : Chunks) → chunks_of bs ≡ Some (chunks_in text all, rest) → rows_of all.chunks ≡ [] → ⊥
 no_chunks text bs rest all g e = not_empty (chunk_of is_ascii_alphabetic) bs rest (g ∙ ap (λ l. Some (map (piece_in text) l, rest)) e)
 
 -- the last chunk taken off, and made the Last
-module _ (text : List ℕ) (all left : Chunks) (chunk : Entry) (p : Popped (entries_of all.chunks) (entries_of left.chunks) (Some chunk)) where
+module _ (text : List ℕ) (all left : Chunks) (chunk : Chunk Span) (p : Popped (rows_of all.chunks) (rows_of left.chunks) (Some chunk)) where
   listed : chunks_in text all ≡ chunks_in text left ++ (piece_in text chunk ∷ [])
-  listed = ap (map (piece_in text)) p ∙ map_push (piece_in text) (entries_of left.chunks) chunk
+  listed = ap (map (piece_in text)) p ∙ map_push (piece_in text) (rows_of left.chunks) chunk
 
   pub before_last : front_of (chunks_in text all) ≡ chunks_in text left
   before_last = ap front_of listed ∙ front_push (chunks_in text left) (piece_in text chunk)
 
-  pub made_last : (last : Last) → last_in text last ≡ last_of (piece_in text chunk) → last_of (final_of (piece.numeric 0) (chunks_in text all)) ≡ last_in text last
+  pub made_last : (last : Last Span) → last_in text last ≡ last_of (piece_in text chunk) → last_of (final_of (piece.numeric 0) (chunks_in text all)) ≡ last_in text last
   made_last last e = ap (λ l. last_of (final_of (piece.numeric 0) l)) listed ∙ ap last_of (final_push (piece.numeric 0) (chunks_in text left) (piece_in text chunk)) ∙ sym e
 
 -- the number of a chunk that a table hands out
@@ -51,12 +53,12 @@ single_taken (y ∷ ys) zero (Some x) h = ap single (h.1 y)
 single_taken (y ∷ ys) (suc n) None h = single_taken ys n None (le_of_suc-le-suc h)
 single_taken (y ∷ ys) (suc n) (Some x) h = single_taken ys n (Some x) (le_of_suc-le-suc h.0, h.1)
 
-module _ (v : Version) (n count : ℕ) (is : count ≡ count_of v.chunks.chunks) (text : List ℕ) where
+module _ (v : Version) (n count : ℕ) (is : count ≡ length (rows_of v.chunks.chunks)) (text : List ℕ) where
   counts : length (chunks_in text v.chunks) ≡ count
-  counts = said_counted plain_part text v.chunks.chunks ∙ sym is
+  counts = said_counted (chunk_part is_ascii_alphabetic) text v.chunks.chunks ∙ sym is
 
   pub at_last : n ≡ count → nth_of (parts_in text v) n ≡ first_of (last_in text v.last)
   at_last e = cond-true _ _ _ (eq-eqb _ _ (e ∙ sym counts))
 
-  pub at_chunk : (n ≡ count → ⊥) → (r : Option Entry) → Taken (entries_of v.chunks.chunks) n r → nth_of (parts_in text v) n ≡ single_of (option_map (piece_in text) r)
-  at_chunk ne r h = cond-false _ _ _ (ne_eqb _ _ (λ e. ne (e ∙ counts))) ∙ single_taken _ n _ (handed_out plain_part text v.chunks.chunks n r h)
+  pub at_chunk : (n ≡ count → ⊥) → (r : Option (Chunk Span)) → Taken (rows_of v.chunks.chunks) n r → nth_of (parts_in text v) n ≡ single_of (option_map (piece_in text) r)
+  at_chunk ne r h = cond-false _ _ _ (ne_eqb _ _ (λ e. ne (e ∙ counts))) ∙ single_taken _ n _ (handed_out (chunk_part is_ascii_alphabetic) text v.chunks.chunks n r h)

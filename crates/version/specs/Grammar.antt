@@ -2,8 +2,8 @@
 use Rattle.std.specs.Prelude.{ℕ, List, [], ◌∷◌, ◌++◌, Option}
 use Rattle.std.specs.Char.{is_ascii_alphabetic}
 use Rattle.parsers.specs.Grammar.{Perhaps, Number, Stretch, Metadata}
-use Rattle.texts.specs.Piece as piece
-use Rattle.texts.specs.Piece.{Piece}
+use Rattle.chunk.specs.Piece as piece
+use Rattle.chunk.specs.Piece.{Piece}
 use Rattle.chunk.specs.Grammar.{Chunks, Released}
 use Rattle.version.specs.Parts.{LastPart, numeric, rc, post, alphanum, Parts}
 

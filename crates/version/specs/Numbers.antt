@@ -1,7 +1,7 @@
 -- The number at a position of a General. Assumes nothing.
 use Rattle.std.specs.Prelude.{ℕ, zero, suc, cond, List, [], ◌∷◌, length, Some, None, Option, ◌==◌}
-use Rattle.texts.specs.Piece as piece
-use Rattle.texts.specs.Piece.{Piece}
+use Rattle.chunk.specs.Piece as piece
+use Rattle.chunk.specs.Piece.{Piece}
 use Rattle.version.specs.Parts.{LastPart, numeric, rc, post, alphanum, Parts}
 
 -- the number of a chunk that is Numeric

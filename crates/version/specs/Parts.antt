@@ -1,6 +1,6 @@
 -- The parts of a General label. Assumes nothing.
 use Rattle.std.specs.Prelude.{ℕ, List, Option}
-use Rattle.texts.specs.Piece.{Piece}
+use Rattle.chunk.specs.Piece.{Piece}
 
 -- The Last: the last chunk of a General, looked into once more. It is a number; or a number, letters and a number (Rc);
 -- or a number and letters (Post); or any other text that holds a letter.

@@ -3,8 +3,8 @@ use Rattle.std.specs.Prelude.{ℕ, List, [], ◌∷◌, Some, None, Option}
 use Rattle.std.specs.Option.{unwrap_or}
 use Rattle.std.specs.Char.{is_ascii_alphabetic}
 use Rattle.parsers.specs.Reading.{Reader, follow, perhaps_of, behind_of, stretch_of, number_of, meta_of}
-use Rattle.texts.specs.Piece as piece
-use Rattle.texts.specs.Piece.{Piece}
+use Rattle.chunk.specs.Piece as piece
+use Rattle.chunk.specs.Piece.{Piece}
 use Rattle.chunk.specs.Reading.{chunks_of, release_of}
 use Rattle.version.specs.Parts.{LastPart, numeric, rc, post, alphanum, Parts}
 

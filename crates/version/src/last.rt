@@ -2,49 +2,40 @@
 ghost use Rattle.std.specs.Prelude.{◌≡◌, ℕ, List, take};
 ghost use Rattle.std.specs.Option.{option_map};
 ghost use Rattle.std.specs.Char.{is_ascii_alphabetic};
-ghost use Rattle.texts.specs.Tables.{bytes_in, piece_in};
+ghost use Rattle.texts.specs.Tables.{bytes_in};
+ghost use Rattle.chunk.specs.Said.{piece_in};
 ghost use Rattle.parsers.specs.Places.{Gives};
 ghost use Rattle.parsers.specs.Reading.{stretch_of};
-ghost use Rattle.version.specs.Labels.{last_in};
+ghost use Rattle.version.specs.Labels.{last_in, last_said};
 ghost use Rattle.version.specs.Numbers.{first_of};
 ghost use Rattle.version.specs.Reading.{all_of, rc_of, post_of, last_of};
 
-use parsers::{Class, number_at, stretch_end};
-use texts::table::{Entry, Span};
+use chunk::chunk::Chunk;
+use parsers::{Alphabetic, stretch_end, unsigned};
+use texts::table::Span;
 
-/// The last chunk of a General, by its numbers and its places in the text.
+/// The last chunk of a General. Its texts are places in a label, or the bytes there.
 #[derive(Clone, Copy)]
-pub enum Last {
+pub enum Last<T> {
     /// A number.
     Numeric(u32),
     /// A number, letters and a number, as in 1.2.3rc2.
-    Rc(u32, Span, u32),
+    Rc(u32, T, u32),
     /// A number and letters, as in 3.7b.
-    Post(u32, Span),
+    Post(u32, T),
     /// Any other text that holds a letter.
-    Alphanum(Span),
-}
-
-/// Letters.
-struct Alphabetic;
-
-impl Class for Alphabetic {
-    ghost class = { is_ascii_alphabetic };
-
-    fn holds(byte: u8) -> bool {
-        byte.is_ascii_alphabetic()
-    }
+    Alphanum(T),
 }
 
 /// The front of a text, up to a place.
 fn front(text: &[u8], to: u8) -> &[u8]
     ensures { result.now ≡ take to text.now }
 {
-    let end = (to as usize).min(text.len());
-    &text[0..end]
+    text.get(..to as usize).unwrap_or(text)
 }
 
-/// The letters at a place, in the front of a text, and the place behind them.
+/// The letters at a place, in the front of a text, and the place behind them. `parsers::stretch` reads a `Text`, whose
+/// places all fit a `Span`; here they fit since the front ends at a place of one.
 fn letters(text: &[u8], to: u8, at: usize) -> Option<(Span, usize)>
     ensures { Gives (bytes_in text.now) (stretch_of is_ascii_alphabetic) (take to text.now) at result }
 {
@@ -60,19 +51,13 @@ fn letters(text: &[u8], to: u8, at: usize) -> Option<(Span, usize)>
 }
 
 /// A word as Rc, if a number, letters and a number make up all of it.
-fn rc(text: &[u8], word: Span) -> Option<Last>
+fn rc(text: &[u8], word: Span) -> Option<Last<Span>>
     ensures { option_map (last_in text.now) result ≡ all_of rc_of (bytes_in text.now word) }
 {
     let bytes = front(text, word.to);
-    let Some((a, at)) = number_at(bytes, word.from as usize) else {
-        return None;
-    };
-    let Some((s, at)) = letters(text, word.to, at) else {
-        return None;
-    };
-    let Some((b, at)) = number_at(bytes, at) else {
-        return None;
-    };
+    let (a, at) = unsigned(bytes, word.from as usize)?;
+    let (s, at) = letters(text, word.to, at)?;
+    let (b, at) = unsigned(bytes, at)?;
     if at < bytes.len() {
         return None;
     }
@@ -80,38 +65,40 @@ fn rc(text: &[u8], word: Span) -> Option<Last>
 }
 
 /// A word as Post, if a number and letters make up all of it.
-fn post(text: &[u8], word: Span) -> Option<Last>
+fn post(text: &[u8], word: Span) -> Option<Last<Span>>
     ensures { option_map (last_in text.now) result ≡ all_of post_of (bytes_in text.now word) }
 {
     let bytes = front(text, word.to);
-    let Some((a, at)) = number_at(bytes, word.from as usize) else {
-        return None;
-    };
-    let Some((s, at)) = letters(text, word.to, at) else {
-        return None;
-    };
+    let (a, at) = unsigned(bytes, word.from as usize)?;
+    let (s, at) = letters(text, word.to, at)?;
     if at < bytes.len() {
         return None;
     }
     Some(Last::Post(a, s))
 }
 
-impl Last {
+impl Last<Span> {
     /// What a chunk becomes as the last one: Numeric, Rc, Post, or else Alphanum.
-    pub fn new(text: &[u8], chunk: Entry) -> Last
+    pub fn new(text: &[u8], chunk: Chunk<Span>) -> Last<Span>
         ensures { last_in text.now result ≡ last_of (piece_in text.now chunk) }
     {
         match chunk {
-            Entry::Numeric(number) => Last::Numeric(number),
-            Entry::Alphanum(word) => {
-                if let Some(last) = rc(text, word) {
-                    return last;
-                }
-                if let Some(last) = post(text, word) {
-                    return last;
-                }
-                Last::Alphanum(word)
-            }
+            Chunk::Numeric(number) => Last::Numeric(number),
+            Chunk::Alphanum(word) => rc(text, word)
+                .or_else(|| post(text, word))
+                .unwrap_or(Last::Alphanum(word)),
+        }
+    }
+
+    /// What a Last is in its text.
+    pub fn in_text<'a>(&self, text: &'a [u8]) -> Last<&'a [u8]>
+        ensures { last_said result ≡ last_in text.now self.now }
+    {
+        match *self {
+            Last::Numeric(number) => Last::Numeric(number),
+            Last::Rc(a, letters, b) => Last::Rc(a, letters.bytes(text), b),
+            Last::Post(a, letters) => Last::Post(a, letters.bytes(text)),
+            Last::Alphanum(word) => Last::Alphanum(word.bytes(text)),
         }
     }
 
@@ -120,9 +107,7 @@ impl Last {
         ensures { (text : List ℕ) → result ≡ first_of (last_in text self.now) }
     {
         match *self {
-            Last::Numeric(number) => Some(number),
-            Last::Rc(number, _, _) => Some(number),
-            Last::Post(number, _) => Some(number),
+            Last::Numeric(number) | Last::Rc(number, _, _) | Last::Post(number, _) => Some(number),
             Last::Alphanum(_) => None,
         }
     }

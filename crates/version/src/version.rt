@@ -2,8 +2,8 @@
 ghost use Rattle.std.specs.Prelude.{◌≡◌, ℕ, List};
 ghost use Rattle.texts.specs.Answers.{told};
 ghost use Rattle.parsers.specs.Answers.{parsed_by, new_by, NewReads};
-ghost use Rattle.texts.specs.Tables.{piece_in};
-ghost use Rattle.parsers.specs.Places.{Gives, PerhapsGives};
+ghost use Rattle.chunk.specs.Said.{piece_in};
+ghost use Rattle.parsers.specs.Places.{Gives};
 ghost use Rattle.texts.specs.Texts.{bytes_of};
 ghost use Rattle.version.specs.Grammar.{General};
 ghost use Rattle.version.specs.Labels.{parts_in, read_in};
@@ -11,13 +11,13 @@ ghost use Rattle.version.specs.Numbers.{single, nth_of};
 ghost use Rattle.version.specs.Reading.{epoch_of, general_of};
 
 use crate::last::Last;
+use chunk::chunk::Chunk;
 use chunk::chunks::Chunks;
-use chunk::perhaps::{perhaps_meta, perhaps_release};
 use chunk::release::Release;
 use fault::LabelFault;
-use parsers::{mark, unsigned};
+use parsers::{mark, meta, opt, unsigned, whole};
 use texts::check_length;
-use texts::table::{Entry, Span};
+use texts::table::Span;
 use texts::text::Text;
 
 /// The parts of a General label: numbers, and places in its text.
@@ -26,7 +26,7 @@ pub struct Version {
     pub epoch: Option<u32>,
     /// The chunks before the Last.
     pub chunks: Chunks,
-    pub last: Last,
+    pub last: Last<Span>,
     pub release: Option<Release>,
     pub meta: Option<Span>,
 }
@@ -35,32 +35,18 @@ pub struct Version {
 fn epoch(text: Text<'_>, at: usize) -> Option<(u32, usize)>
     ensures { Gives (λ n. n) epoch_of (bytes_of text.entry) at result }
 {
-    let Some((number, at)) = unsigned(text, at) else {
-        return None;
-    };
-    let Some(at) = mark(text, at, b':') else {
-        return None;
-    };
+    let (number, at) = unsigned(text.bytes, at)?;
+    let at = mark(text.bytes, at, b':')?;
     Some((number, at))
 }
 
-/// The epoch at a place, if there is one, and the place behind it.
-fn perhaps_epoch(text: Text<'_>, at: usize) -> (Option<u32>, usize)
-    ensures { PerhapsGives (λ n. n) epoch_of (bytes_of text.entry) at result }
-{
-    match epoch(text, at) {
-        Some((number, end)) => (Some(number), end),
-        None => (None, at),
-    }
-}
-
 /// The number of a chunk that is Numeric.
-fn single_digit(chunk: Entry) -> Option<u32>
+fn single_digit(chunk: Chunk<Span>) -> Option<u32>
     ensures { (text : List ℕ) → result ≡ single (piece_in text chunk) }
 {
     match chunk {
-        Entry::Numeric(number) => Some(number),
-        Entry::Alphanum(_) => None,
+        Chunk::Numeric(number) => Some(number),
+        Chunk::Alphanum(_) => None,
     }
 }
 
@@ -69,15 +55,11 @@ impl Version {
     fn read(text: Text<'_>) -> Option<(Version, usize)>
         ensures { Gives (parts_in (bytes_of text.entry)) general_of (bytes_of text.entry) 0 result }
     {
-        let (epoch, at) = perhaps_epoch(text, 0);
-        let Some((mut chunks, at)) = Chunks::parse(text, at) else {
-            return None;
-        };
-        let (release, at) = perhaps_release(text, at);
-        let (meta, at) = perhaps_meta(text, at);
-        let Some(chunk) = chunks.chunks.pop() else {
-            return None;
-        };
+        let (epoch, at) = opt(epoch(text, 0), 0);
+        let (mut chunks, at) = Chunks::parse(text, at)?;
+        let (release, at) = opt(Release::parse(text, at), at);
+        let (meta, at) = opt(meta(text, at), at);
+        let chunk = chunks.chunks.pop()?;
         let version = Version {
             epoch,
             chunks,
@@ -93,13 +75,8 @@ impl Version {
     pub fn parse(text: &[u8]) -> Result<(Version, usize), LabelFault>
         ensures { told (read_in text.now) result ≡ parsed_by general_of text.now }
     {
-        if let Err(fault) = check_length(text) {
-            return Err(fault);
-        }
-        match Version::read(Text::new(text)) {
-            Some(found) => Ok(found),
-            None => Err(LabelFault::NoForm(0)),
-        }
+        check_length(text)?;
+        Version::read(Text::new(text)).ok_or(LabelFault::NoForm(0))
     }
 
     /// The General that a text is, or the fault: those of `parse`, and 3 with the bytes read where something is left over.
@@ -107,16 +84,7 @@ impl Version {
         ensures answer { told (parts_in text.now) result ≡ new_by general_of text.now }
         ensures reading { NewReads General text.now (told (parts_in text.now) result) }
     {
-        match Version::parse(text) {
-            Ok((version, read)) => {
-                if read == text.len() {
-                    Ok(version)
-                } else {
-                    Err(LabelFault::NoForm(read))
-                }
-            }
-            Err(fault) => Err(fault),
-        }
+        whole(Version::parse(text)?, text)
     }
 
     /// The number of the nth chunk, if that is Numeric; behind the chunks the first number of the Last, if it has one.
@@ -126,9 +94,6 @@ impl Version {
         if n == self.chunks.chunks.len() {
             return self.last.first();
         }
-        match self.chunks.chunks.get(n) {
-            Some(chunk) => single_digit(chunk),
-            None => None,
-        }
+        single_digit(self.chunks.chunks.get(n)?)
     }
 }
