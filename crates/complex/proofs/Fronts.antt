@@ -1,19 +1,14 @@
 -- The first level of a Complex, and what is behind it. Assumes nothing.
-use Rattle.std.proofs.Common.{◌≡◌, ℕ, ◌+◌, List, [], ◌∷◌, length, drop, Some, None, Option, sym, refl, ap, ◌∙◌, not-suc-le-zero, arith}
+use Rattle.std.proofs.Common.{◌≡◌, ℕ, ◌+◌, List, [], ◌∷◌, drop, Some, None, Option, sym, refl, ap, ◌∙◌, not-suc-le-zero}
 use Rattle.std.proofs.lemmas.List.{drop_all}
 use Rattle.texts.specs.Tables.{Taken}
-use Rattle.word.specs.declared.Word.{Word}
 use Rattle.mess.specs.declared.sep.Sep.{Sep}
 use Rattle.mess.specs.declared.sep.Sep.TheVariants.{Colon}
 use Rattle.mess.specs.declared.mess.Level.{Level}
 use Rattle.mess.specs.Parts.{MChunk, Parts}
-use Rattle.mess.specs.Reading.{number_in}
 use Rattle.mess.specs.Labels.{levels_from}
 use Rattle.mess.proofs.Handing.{at_level, colon, not_colon}
-use Rattle.complex.specs.declared.mchunk.MChunk.{MChunk as Lent}
-use Rattle.complex.specs.declared.mchunk.MChunk.TheVariants.{Digits, Rev, Plain}
-use Rattle.complex.specs.Said.{says}
-use Rattle.complex.specs.Fronts.{behind_first, alone, before_colon}
+use Rattle.complex.specs.Fronts.{behind_first, before_colon}
 
 -- one level on
 module _ (cs : List MChunk) (ls : List Level) (begin next : ℕ) where
@@ -22,17 +17,6 @@ module _ (cs : List MChunk) (ls : List Level) (begin next : ℕ) where
 
   pub none_on : Taken ls next None → None ≡ behind_first (levels_from cs begin (drop next ls))
   none_on t = sym (ap (λ xs. behind_first (levels_from cs begin xs)) (drop_all next ls t))
-
--- a level of one MChunk
-pub alone_one : (cs : List MChunk) (c : MChunk) → length cs ≡ 1 → Taken cs 0 (Some c) → number_in c ≡ alone cs
-alone_one [] c e t = absurd (omega (arith, t.0))
-alone_one (d ∷ []) c e t = ap number_in (sym (t.1 c))
-alone_one (d ∷ x ∷ cs) c e t = absurd (omega arith)
-
-pub not_digits : (c : Lent) → ((n : ℕ) (w : Word) → c ≡ Digits n w → ⊥) → None ≡ number_in (says c)
-not_digits (Digits n w) h = absurd (h n w refl)
-not_digits (Rev n w) h = refl
-not_digits (Plain w) h = refl
 
 -- what follows the first level
 pub colon_first : (o : Option ℕ) (ls : List (Sep × List MChunk)) (l : Sep × List MChunk) → Taken ls 0 (Some l) → l.0 ≡ Colon → o ≡ before_colon o ls

@@ -1,5 +1,5 @@
 -- Handing out the levels of a Complex from one of them on, and the MChunks of a level. Assumes nothing.
-use Rattle.std.proofs.Common.{◌≡◌, ℕ, zero, suc, ◌+◌, ◌-◌, ◌<◌, ◌≤◌, min, List, [], ◌∷◌, map, length, get_or, drop, Some, None, sym, refl, ap, ◌∙◌, subst, le_of_suc-le-suc, not-suc-le-zero, arith, length-drop, length-take}
+use Rattle.std.proofs.Common.{◌≡◌, ℕ, zero, suc, ◌+◌, ◌-◌, ◌<◌, ◌≤◌, List, [], ◌∷◌, length, get_or, drop, Some, None, sym, refl, ap, ◌∙◌, subst, le_of_suc-le-suc, not-suc-le-zero, arith, length-take}
 use lib.ListN.{length-map}
 use Rattle.std.specs.List.{between}
 use Rattle.std.proofs.lemmas.List.{get_or-map}
@@ -9,7 +9,6 @@ use Rattle.mess.specs.declared.sep.Sep.{Sep}
 use Rattle.mess.specs.declared.mess.Level.{Level}
 use Rattle.mess.specs.Parts.{MChunk, Parts}
 use Rattle.mess.specs.Labels.{levels_from, begin_in}
-use Rattle.mess.proofs.Handing.{between_map}
 use Rattle.complex.specs.Order.{levels_of}
 
 -- an index of a part of a list is one of the list
@@ -55,19 +54,6 @@ module _ (cs : List MChunk) (total : ℕ) (few : length cs ≤ total) (at : ℕ)
 
   pub no_level : Taken (between from count ls) i None → Taken (levels_from cs at (drop from ls)).further i None
   no_level t = subst (λ n. n ≤ i) (sym (further_count cs at (drop from ls))) (subst (λ xs. length xs ≤ i) rest t)
-
--- the MChunks of a level
-module _ {X Y : Type 0} (f : X → Y) (xs : List X) (begin end : ℕ) where
-  pub level_count : (n : ℕ) → n ≡ min end (length xs) - begin → n ≡ length (between begin end (map f xs))
-  level_count n e = e ∙ omega (arith, length-take (end - begin) (drop begin (map f xs)), length-drop begin (map f xs), length-map xs f)
-
-  pub handed : (i : ℕ) (x : X) (y : Y) → y ≡ f x → Taken (between begin end xs) i (Some x) → Taken (between begin end (map f xs)) i (Some y)
-  handed i x y e t =
-      subst (λ l. Taken l i (Some y)) (sym (between_map f begin end xs))
-      (subst (λ n. i < n) (sym (length-map (between begin end xs) f)) t.0, λ d. get_or-map f (between begin end xs) i x d t.0 ∙ ap f (t.1 x) ∙ sym e)
-
-  pub none_handed : (i : ℕ) → Taken (between begin end xs) i None → Taken (between begin end (map f xs)) i None
-  none_handed i t = subst (λ l. length l ≤ i) (sym (between_map f begin end xs)) (subst (λ n. n ≤ i) (sym (length-map (between begin end xs) f)) t)
 
 -- all levels, without their signs
 module _ (p : Parts) where

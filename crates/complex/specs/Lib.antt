@@ -1,4 +1,3 @@
 pub mod Order
-pub mod Said
 pub mod Views
 pub mod Fronts

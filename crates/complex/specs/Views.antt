@@ -1,15 +1,15 @@
 -- What a Complex beside its text hands out. Assumes nothing.
-use Rattle.std.specs.Prelude.{List, drop}
-use Rattle.std.specs.List.{between}
+use Rattle.std.specs.Prelude.{List, map, drop}
 use Rattle.order.specs.Orders.{Order, listwise}
 use Rattle.mess.specs.declared.sep.Sep.{Sep}
 use Rattle.mess.specs.Parts.{MChunk, Parts}
-use Rattle.mess.specs.Tables.{rows_of}
+use Rattle.texts.specs.Tables.{rows_of}
+use Rattle.mess.specs.Tables.{mchunk_in}
 use Rattle.mess.specs.Labels.{mchunks_in, levels_from}
 use Rattle.complex.specs.declared.views.MessIn.{MessIn}
 use Rattle.complex.specs.declared.views.LevelIn.{LevelIn}
 use Rattle.complex.specs.Order.{levels_of}
-use Rattle.complex.specs.Said.{mchunkwise}
+use Rattle.mess.specs.Said.{mchunkwise}
 
 -- the parts from one level on
 abbrev pub parts_of : MessIn → Parts
@@ -17,7 +17,7 @@ parts_of x = levels_from (mchunks_in x.text.now x.mess.now.chunks) x.begin (drop
 
 -- the MChunks of a level
 abbrev pub level_in : LevelIn → List MChunk
-level_in x = between x.begin x.end (mchunks_in x.text.now x.mess.now.chunks)
+level_in x = map (mchunk_in x.text.now) x.chunks.now
 
 -- a further level and its sign
 abbrev pub signed_in : Sep × LevelIn → Sep × List MChunk

@@ -4,8 +4,8 @@ ghost use Rattle.std.specs.Option.{option_map};
 ghost use Rattle.complex.specs.Views.{parts_of, level_in};
 ghost use Rattle.complex.specs.Fronts.{behind_first, alone, epoch_like};
 
-use crate::mchunk::MChunk;
 use crate::views::{LevelIn, MessIn};
+use mess::mchunk::MChunk;
 use mess::sep::Sep;
 use order::Parts;
 
@@ -14,24 +14,19 @@ impl<'a> MessIn<'a> {
     pub fn behind_first(&self) -> Option<MessIn<'a>>
         ensures { option_map parts_of result ≡ behind_first (parts_of self.now) }
     {
-        match self.mess.levels.get(self.next) {
-            Some(level) => Some(MessIn {
-                text: self.text,
-                mess: self.mess,
-                begin: level.begin as usize,
-                next: self.next + 1,
-            }),
-            None => None,
-        }
+        let level = self.mess.levels.get(self.next)?;
+        Some(MessIn {
+            begin: level.begin as usize,
+            next: self.next + 1,
+            ..*self
+        })
     }
 
     /// The number of the first level, if that is one MChunk, of Digits, followed by a colon.
     pub fn epoch(&self) -> Option<u32>
         ensures { result ≡ epoch_like (parts_of self.now) }
     {
-        let Some((sep, _)) = self.level(0) else {
-            return None;
-        };
+        let (sep, _) = self.level(0)?;
         match sep {
             Sep::Colon => self.first().alone(),
             _ => None,
@@ -44,14 +39,8 @@ impl<'a> LevelIn<'a> {
     fn alone(&self) -> Option<u32>
         ensures { result ≡ alone (level_in self.now) }
     {
-        if self.len() != 1 {
-            return None;
-        }
-        let Some(chunk) = self.get(0) else {
-            return None;
-        };
-        match chunk {
-            MChunk::Digits(number, _) => Some(number),
+        match self.chunks {
+            [MChunk::Digits(number, _)] => Some(*number),
             _ => None,
         }
     }

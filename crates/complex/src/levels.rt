@@ -2,18 +2,18 @@
 ghost use Rattle.std.specs.Prelude.{◌≡◌, length, refl};
 ghost use Rattle.order.specs.Orders.{Same};
 ghost use Rattle.complex.specs.Order.{complex_order};
-ghost use Rattle.complex.specs.Said.{mchunkwise};
+ghost use Rattle.mess.specs.Said.{mchunkwise};
 ghost use Rattle.complex.specs.Views.{parts_of, level_in, levelwise, all_levels};
 
-use crate::mchunk::MChunk;
 use crate::views::{LevelIn, MessIn};
+use mess::mchunk::MChunk;
 use order::{Parts, compare_lists};
 use std::cmp::Ordering;
 use word::Word;
 
 /// A level is the list of its MChunks.
 impl<'a> Parts for LevelIn<'a> {
-    type Part = MChunk<'a>;
+    type Part = MChunk<Word<'a>>;
 
     ghost each = { mchunkwise };
 
@@ -24,16 +24,11 @@ impl<'a> Parts for LevelIn<'a> {
     ghost counted = { λ x. refl };
 
     fn len(&self) -> usize {
-        self.end
-            .min(self.mess.chunks.len())
-            .saturating_sub(self.begin)
+        self.chunks.len()
     }
 
-    fn part(&self, i: usize) -> MChunk<'a> {
-        match self.get(i) {
-            Some(chunk) => chunk,
-            None => MChunk::Plain(Word::text(b"")),
-        }
+    fn part(&self, i: usize) -> MChunk<Word<'a>> {
+        self.get(i).unwrap_or(MChunk::Plain(Word::text(b"")))
     }
 
     fn agrees()
@@ -58,6 +53,7 @@ impl<'a> Parts for MessIn<'a> {
     }
 
     fn part(&self, i: usize) -> LevelIn<'a> {
+        // By `checked_sub` and `and_then` the arms would not know what `level` answered.
         if i == 0 {
             return self.first();
         }

@@ -3,5 +3,4 @@
 
 pub mod epoch;
 pub mod levels;
-pub mod mchunk;
 pub mod views;

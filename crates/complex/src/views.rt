@@ -1,14 +1,17 @@
 //! A Complex beside its text: its levels and their MChunks.
-ghost use Rattle.std.specs.Prelude.{◌≡◌, ◌<◌, length};
+ghost use Rattle.std.specs.Prelude.{◌≡◌, ◌≤◌, length};
+ghost use Rattle.std.specs.List.{between};
 ghost use Rattle.std.specs.Option.{option_map};
 ghost use Rattle.texts.specs.Tables.{Taken};
-ghost use Rattle.mess.specs.Labels.{parts_in};
-ghost use Rattle.complex.specs.Said.{says};
+ghost use Rattle.mess.specs.Labels.{mchunks_in, parts_in};
+ghost use Rattle.mess.specs.Said.{says};
 ghost use Rattle.complex.specs.Views.{parts_of, level_in, signed_in};
 
-use crate::mchunk::MChunk;
+use mess::mchunk::MChunk;
 use mess::mess::Mess;
 use mess::sep::Sep;
+use texts::table::Span;
+use word::Word;
 
 /// A Complex label: its parts beside its text, from one of its levels on. That level begins at a place of the table of
 /// MChunks, and the further ones at a place of the table of levels.
@@ -20,13 +23,11 @@ pub struct MessIn<'a> {
     pub next: usize,
 }
 
-/// A level of a Complex: the list of its MChunks, from one place of the table to another.
+/// A level of a Complex: its MChunks, beside the text in which they lie.
 #[derive(Clone, Copy)]
 pub struct LevelIn<'a> {
     pub text: &'a [u8],
-    pub mess: &'a Mess,
-    pub begin: usize,
-    pub end: usize,
+    pub chunks: &'a [MChunk<Span>],
 }
 
 impl<'a> MessIn<'a> {
@@ -42,22 +43,27 @@ impl<'a> MessIn<'a> {
         }
     }
 
+    /// The level from one place of the table of MChunks to another.
+    fn between(&self, begin: usize, end: usize) -> LevelIn<'a>
+        ensures { level_in result ≡ between begin end (mchunks_in self.now.text.now self.now.mess.now.chunks) }
+    {
+        LevelIn {
+            text: self.text,
+            chunks: self.mess.chunks.between(begin, end),
+        }
+    }
+
     /// The first level.
     pub fn first(&self) -> LevelIn<'a>
         ensures { level_in result ≡ (parts_of self.now).first }
     {
-        LevelIn {
-            text: self.text,
-            mess: self.mess,
-            begin: self.begin,
-            end: self.mess.begin(self.next),
-        }
+        self.between(self.begin, self.mess.begin(self.next))
     }
 
     /// How many further levels there are.
     pub fn further(&self) -> usize
         ensures count { result ≡ length (parts_of self.now).further }
-        ensures few { result < 256 }
+        ensures few { result ≤ 64 }
     {
         self.mess.levels.len().saturating_sub(self.next)
     }
@@ -67,29 +73,18 @@ impl<'a> MessIn<'a> {
         ensures { Taken (parts_of self.now).further i (option_map signed_in result) }
     {
         let count = self.mess.levels.len();
-        match self.mess.levels.within(self.next, count, i) {
-            Some(level) => {
-                let view = LevelIn {
-                    text: self.text,
-                    mess: self.mess,
-                    begin: level.begin as usize,
-                    end: self.mess.begin(self.next + i + 1),
-                };
-                Some((level.sep, view))
-            }
-            None => None,
-        }
+        let level = self.mess.levels.between(self.next, count).get(i).copied()?;
+        let end = self.mess.begin(self.next + i + 1);
+        Some((level.sep, self.between(level.begin as usize, end)))
     }
 }
 
 impl<'a> LevelIn<'a> {
     /// The MChunk at an index, if there is one.
-    pub fn get(&self, i: usize) -> Option<MChunk<'a>>
+    pub fn get(&self, i: usize) -> Option<MChunk<Word<'a>>>
         ensures { Taken (level_in self.now) i (option_map says result) }
     {
-        match self.mess.chunks.within(self.begin, self.end, i) {
-            Some(entry) => Some(MChunk::new(self.text, entry)),
-            None => None,
-        }
+        let entry = self.chunks.get(i)?;
+        Some(MChunk::new(self.text, *entry))
     }
 }

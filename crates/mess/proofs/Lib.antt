@@ -6,4 +6,3 @@ pub mod Chunks
 pub mod Filling
 pub mod Ring
 pub mod Handing
-mod Entries

@@ -1,10 +1,9 @@
 -- The class of a run, byte by byte. Assumes nothing.
-use Rattle.std.proofs.Common.{◌≡◌, ℕ, ◌+◌, ◌-◌, ◌*◌, ◌<◌, ◌≤◌, true, false, eqb, leb, List, [], ◌∷◌, ◌++◌, length, get_or, take, drop, sym, refl, ap, ◌∙◌, subst, ⊎_elim, append_assoc, append-nil, arith}
-use Rattle.std.specs.List.{between}
+use Rattle.std.proofs.Common.{◌≡◌, ℕ, ◌+◌, ◌-◌, ◌*◌, ◌<◌, ◌≤◌, true, false, eqb, leb, List, [], ◌∷◌, ◌++◌, sym, refl, ap, ◌∙◌, subst, append_assoc, append-nil, arith}
+use Rattle.std.specs.List.{fold}
 use Rattle.std.specs.Char.{is_ascii_digit}
 use Rattle.std.specs.Str.{all_ascii_digits}
-use Rattle.std.proofs.lemmas.List.Edits.{between_none, between_more}
-use Rattle.std.proofs.lemmas.Bool.{and_parts, and_from, and_left, and_right, both_ways, cond_both, cond-true, cond-false, eqb-true, ne_eqb, le-leb, lt-leb, leb-true, leb-false, cases_lt}
+use Rattle.std.proofs.lemmas.Bool.{and_parts, and_from, and_left, and_right, both_ways, cond_both, cond-true, cond-false, eqb-true, ne_eqb, le-leb, lt-leb, leb-true, leb-false}
 use Rattle.std.proofs.lemmas.Bool.Decides.{nat_tests}
 use Rattle.parsers.specs.Grammar.{limit, worth}
 use Rattle.parsers.proofs.Numbers.{worth_append}
@@ -109,22 +108,10 @@ done (Digits n) w (c, e) = sym (cond-true _ _ _ c ∙ ap (λ n. digits n w) e)
 done (Rev n) w (u, r, c, e) = subst (λ l. rev n l ≡ sorted l) (sym r) (sym (cond-true _ _ _ c ∙ ap (λ n. rev n (114 ∷ u)) e))
 done Plain w s = sym (rw append-nil at (s []))
 
--- the class of the bytes from a place on, up to i
-pub record Sofar (text : List ℕ) (at end i : ℕ) (c : Class) : Type 0 where
-  pub says : Says c (between at i text)
-  pub stays : end ≤ at → i ≤ at
+-- the class of bytes that are read one by one
+says_all : (c : Class) (v w : List ℕ) → Says c v → Says (fold after_of c w) (v ++ w)
+says_all c v [] s = subst (Says c) (sym (append-nil v)) s
+says_all c v (b ∷ w) s = subst (Says (fold after_of c (b ∷ w))) (append_assoc v (b ∷ []) w) (says_all (after_of c b) (v ++ b ∷ []) w (step c v b s))
 
-pub start : (text : List ℕ) (at end : ℕ) → Sofar text at end at Start
-start text at end = record { says = between_none text at; stays = λ _. omega arith }
-
-module _ {text : List ℕ} {at end i : ℕ} {c : Class} (s : Sofar text at end i c) where
-  pub further : at ≤ i → i < end → end ≤ length text → {d : Class} → d ≡ after_of c (get_or text i 0) → Sofar text at end (i + 1) d
-  further l h f {d} e = record {
-    says = subst (λ x. Says x (between at (i + 1) text)) (sym e) (subst (Says (after_of c (get_or text i 0))) (sym (between_more text at i 0 l (omega arith))) (step c (between at i text) (get_or text i 0) s.says));
-    stays = λ k. omega arith;
-  }
-
-  pub classes : end ≤ i → (at ≤ end → i ≤ end) → classed c (between at end text) ≡ sorted (between at end text)
-  classes l h =
-      let n : i - at ≡ end - at = ⊎_elim (λ k. omega (arith, s.stays (omega arith))) (λ k. omega (arith, h k)) (cases_lt end at) in
-      subst (λ k. classed c (take k (drop at text)) ≡ sorted (take k (drop at text))) n (done c (between at i text) s.says)
+pub classes : (w : List ℕ) → classed (fold after_of Start w) w ≡ sorted w
+classes w = done (fold after_of Start w) w (says_all Start [] w refl)

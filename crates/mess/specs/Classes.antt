@@ -1,6 +1,5 @@
 -- The class of a run as it is read, byte by byte. Assumes nothing.
-use Rattle.std.specs.Prelude.{◌≡◌, ℕ, ◌+◌, ◌-◌, ◌*◌, cond, List, Some, None, Option, ◌==◌, nat_le}
-use Rattle.std.specs.List.{between}
+use Rattle.std.specs.Prelude.{◌≡◌, ℕ, ◌+◌, ◌-◌, ◌*◌, cond, List, take, Some, None, Option, ◌==◌, nat_le}
 use Rattle.std.specs.Char.{is_ascii_digit, is_ascii_alphabetic}
 use Rattle.parsers.specs.Bytes.{or_digit}
 use Rattle.parsers.specs.Grammar.{limit}
@@ -38,7 +37,7 @@ classed Plain w = plain w
 abbrev pub settled : Class → List ℕ → List ℕ → MChunk
 settled c rest w = cond (ended rest) (classed c w) (plain w)
 
--- the run at a place ends there, and is of this class
-pub record Scanned (text : List ℕ) (at : ℕ) (r : Class × ℕ) : Type 0 where
-  pub end : EndOf (or_digit is_ascii_alphabetic) text at r.1
-  pub class : classed r.0 (between at r.1 text) ≡ sorted (between at r.1 text)
+-- the run in front of a text ends there, and is of this class
+pub record Scanned (text : List ℕ) (r : Class × ℕ) : Type 0 where
+  pub end : EndOf (or_digit is_ascii_alphabetic) text 0 r.1
+  pub class : classed r.0 (take r.1 text) ≡ sorted (take r.1 text)

@@ -1,12 +1,12 @@
 -- What the code's Complexes say of their texts. Assumes nothing.
-use Rattle.std.specs.Prelude.{ℕ, zero, suc, List, [], ◌∷◌, map, drop}
+use Rattle.std.specs.Prelude.{ℕ, zero, suc, List, [], ◌∷◌, map, length, drop}
 use Rattle.std.specs.List.{between}
-use Rattle.mess.specs.declared.rows.Rows.{Rows}
-use Rattle.mess.specs.declared.mchunk.MEntry.{MEntry}
+use Rattle.texts.specs.declared.table.Rows.{Rows}
 use Rattle.mess.specs.declared.mess.Level.{Level}
 use Rattle.mess.specs.declared.mess.Mess.{Mess}
 use Rattle.mess.specs.Parts.{MChunk, Parts}
-use Rattle.mess.specs.Tables.{rows_of, count_of, mchunk_in}
+use Rattle.texts.specs.Tables.{rows_of}
+use Rattle.mess.specs.Tables.{MEntry, mchunk_in}
 
 -- the MChunks of a table, with their text
 abbrev pub mchunks_in : List ℕ → Rows MEntry → List MChunk
@@ -32,4 +32,4 @@ begin_in n (l ∷ ls) zero = l.begin
 begin_in n (l ∷ ls) (suc i) = begin_in n ls i
 
 abbrev pub begin_of : Mess → ℕ → ℕ
-begin_of m i = begin_in (count_of m.chunks) (rows_of m.levels) i
+begin_of m i = begin_in (length (rows_of m.chunks)) (rows_of m.levels) i

@@ -1,8 +1,11 @@
 pub mod Parts
 pub mod Grammar
 pub mod Reading
+pub mod Signs
 pub mod Classes
 pub mod Tables
 pub mod Labels
+pub mod Rests
 pub mod Filled
-pub mod Views
+pub mod Order
+pub mod Said

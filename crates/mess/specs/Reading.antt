@@ -102,3 +102,11 @@ mchunk_from n cs (l ∷ ls) = by_colon l.0 (mchunk_from n l.1 ls) (slice_get cs 
 
 abbrev pub mchunk_at : ℕ → Parts → Option MChunk
 mchunk_at n p = mchunk_from n p.first p.further
+
+-- the first level that no colon follows, in which the nth MChunk is looked up
+abbrev pub nth_level_from : List MChunk → List (Sep × List MChunk) → List MChunk
+nth_level_from cs [] = cs
+nth_level_from cs (l ∷ ls) = by_colon l.0 (nth_level_from l.1 ls) cs
+
+abbrev pub nth_level : Parts → List MChunk
+nth_level p = nth_level_from p.first p.further

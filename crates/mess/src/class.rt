@@ -23,10 +23,7 @@ pub enum Class {
 fn with_digit(number: u32, digit: u8) -> Option<u32>
     ensures { result ≡ with_digit number digit }
 {
-    match number.checked_mul(10) {
-        Some(tens) => tens.checked_add(u32::from(digit)),
-        None => None,
-    }
+    number.checked_mul(10)?.checked_add(u32::from(digit))
 }
 
 /// The class after one byte more.
@@ -37,26 +34,24 @@ fn after(class: Class, byte: u8) -> Class
         (Class::Start, b'0'..=b'9') => Class::Digits(u32::from(byte - b'0')),
         (Class::Start, b'r') => Class::OnlyR,
         (Class::OnlyR, b'0'..=b'9') => Class::Rev(u32::from(byte - b'0')),
-        (Class::Digits(number), b'0'..=b'9') => match with_digit(number, byte - b'0') {
-            Some(more) => Class::Digits(more),
-            None => Class::Plain,
-        },
-        (Class::Rev(number), b'0'..=b'9') => match with_digit(number, byte - b'0') {
-            Some(more) => Class::Rev(more),
-            None => Class::Plain,
-        },
+        (Class::Digits(number), b'0'..=b'9') => {
+            with_digit(number, byte - b'0').map_or(Class::Plain, Class::Digits)
+        }
+        (Class::Rev(number), b'0'..=b'9') => {
+            with_digit(number, byte - b'0').map_or(Class::Plain, Class::Rev)
+        }
         _ => Class::Plain,
     }
 }
 
-/// The class of the run at a place, and the place behind it.
-pub fn scan(text: &[u8], at: usize) -> (Class, usize)
-    ensures { Scanned text.now at result }
+/// The class of the run in front of a text, and how long the run is.
+pub fn scan(text: &[u8]) -> (Class, usize)
+    ensures { Scanned text.now result }
 {
-    let end = run_end(text, at);
+    let end = run_end(text, 0);
     let mut class = Class::Start;
-    for i in at..end {
-        class = after(class, text[i]);
+    for byte in &text[..end] {
+        class = after(class, *byte);
     }
     (class, end)
 }

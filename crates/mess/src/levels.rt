@@ -1,24 +1,22 @@
 //! Reading levels: the MChunks of a level, and the levels behind it.
-ghost use Rattle.std.specs.Prelude.{◌+◌, ◌≤◌, length};
-ghost use Rattle.mess.specs.Filled.{Fitted, LevelInto, LevelsInto, NextInto};
+ghost use Rattle.std.specs.Prelude.{◌+◌};
+ghost use Rattle.mess.specs.Filled.{Fitted, Room, LevelInto, LevelsInto, NextInto};
 
-use crate::mchunk::{MChunk, MEntry};
+use crate::mchunk::MChunk;
 use crate::mess::{Level, Mess};
-use crate::rows::Rows;
+use crate::rest::Rest;
+use texts::table::{Rows, Span};
 
-/// The MChunks of the level in front of a rest, joined by dots, into their table, and the place behind them in the
-/// rest. A dot without an MChunk behind it is not read.
-fn mchunks(rest: &[u8], from: usize, chunks: &mut Rows<MEntry>) -> Option<usize>
-    requires short { from + length rest.now ≤ 128 }
-    requires room { Fitted from chunks.old }
-    ensures { LevelInto from rest.now chunks.old chunks.new result }
+/// The MChunks of the level in front of a rest, joined by dots, into their table, and the rest behind them. A dot
+/// without an MChunk behind it is not read.
+fn mchunks<'a>(rest: Rest<'a>, chunks: &mut Rows<MChunk<Span>>) -> Option<Rest<'a>>
+    requires room { Fitted rest.from chunks.old }
+    ensures { LevelInto rest.entry chunks.old chunks.new result }
 {
-    let Some((first, mut end)) = MChunk::parse(rest, 0, from) else {
-        return None;
-    };
+    let (first, mut end) = MChunk::parse(rest)?;
     chunks.push(first);
-    while end < rest.len() && rest[end] == b'.' {
-        let Some((further, behind)) = MChunk::parse(rest, end + 1, from) else {
+    while let Some(dotted) = end.strip(b'.') {
+        let Some((further, behind)) = MChunk::parse(dotted) else {
             break;
         };
         chunks.push(further);
@@ -27,52 +25,41 @@ fn mchunks(rest: &[u8], from: usize, chunks: &mut Rows<MEntry>) -> Option<usize>
     Some(end)
 }
 
-/// The level in front of a rest and those behind it into the tables, and the place behind them in the text. The rest
-/// begins at the place `from` of the text.
+/// The level in front of a rest and those behind it into the tables, and the rest behind them. This and `next` call
+/// each other on ever shorter slices.
 #[cycle(next_parse)]
-pub(crate) fn parse(
-    rest: &[u8],
-    from: usize,
-    chunks: &mut Rows<MEntry>,
-    levels: &mut Rows<Level>,
-) -> Option<usize>
-    requires short { from + length rest.now ≤ 128 }
-    requires chunks { Fitted from chunks.old }
-    requires levels { Fitted (from + 1) levels.old }
-    ensures { LevelsInto from rest.now chunks.old levels.old chunks.new levels.new result }
+pub(crate) fn parse<'a>(rest: Rest<'a>, mess: &mut Mess) -> Option<Rest<'a>>
+    requires room { Room rest.from (rest.from + 1) mess.old }
+    ensures { LevelsInto rest.entry mess.old mess.new result }
 {
-    let Some(end) = mchunks(rest, from, chunks) else {
-        return None;
-    };
-    Some(next(&rest[end..], from + end, chunks, levels))
+    let end = mchunks(rest, &mut mess.chunks)?;
+    Some(next(end, mess))
 }
 
-/// The levels behind a sign in front of a rest into the tables, if there are any, and the place behind them in the
-/// text. A sign without a level behind it is not read.
+/// The levels behind a sign in front of a rest into the tables, if there are any, and the rest behind them. A sign
+/// without a level behind it is not read.
 #[cycle(next_parse)]
-fn next(rest: &[u8], from: usize, chunks: &mut Rows<MEntry>, levels: &mut Rows<Level>) -> usize
-    requires short { from + length rest.now ≤ 128 }
-    requires chunks { Fitted (from + 1) chunks.old }
-    requires levels { Fitted from levels.old }
-    ensures { NextInto from rest.now chunks.old levels.old chunks.new levels.new result }
+fn next<'a>(rest: Rest<'a>, mess: &mut Mess) -> Rest<'a>
+    requires room { Room (rest.from + 1) rest.from mess.old }
+    ensures { NextInto rest.entry mess.old mess.new result }
 {
-    let [byte, behind @ ..] = rest else {
-        return from;
+    let Some((byte, behind)) = rest.split_first() else {
+        return rest;
     };
-    let Some(sep) = Mess::sep(*byte) else {
-        return from;
+    let Some(sep) = Mess::sep(byte) else {
+        return rest;
     };
-    let count = levels.count;
-    levels.push(Level {
+    let count = mess.levels.len();
+    mess.levels.push(Level {
         sep,
-        begin: chunks.count,
+        begin: mess.chunks.len() as u8,
     });
-    match parse(behind, from + 1, chunks, levels) {
+    match parse(behind, mess) {
         Some(end) => end,
         None => {
             // No level stands behind the sign: its entry is taken back.
-            levels.count = count;
-            from
+            mess.levels.truncate(count);
+            rest
         }
     }
 }

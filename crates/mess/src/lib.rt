@@ -5,6 +5,5 @@ mod class;
 mod levels;
 pub mod mchunk;
 pub mod mess;
-pub mod rows;
+mod rest;
 pub mod sep;
-pub mod views;

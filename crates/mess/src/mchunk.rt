@@ -1,32 +1,33 @@
-//! MChunks: the parts of a level.
-ghost use Rattle.std.specs.Prelude.{◌≡◌, ℕ, ◌+◌, ◌≤◌, List, length};
+//! MChunks: the parts of a level, and their order.
+ghost use Rattle.std.specs.Prelude.{◌≡◌, ℕ, List};
 ghost use Rattle.texts.specs.Tables.{bytes_in};
+ghost use Rattle.word.specs.Words.{word_of};
 ghost use Rattle.mess.specs.Reading.{mchunk_of};
 ghost use Rattle.mess.specs.Classes.{settled};
-ghost use Rattle.mess.specs.Tables.{mchunk_in, says, text_of, GivesIn};
+ghost use Rattle.mess.specs.Tables.{said_by, mchunk_in, text_of};
+ghost use Rattle.mess.specs.Rests.{GivesIn};
+ghost use Rattle.mess.specs.Order.{mchunk_order, Ring, NotStrict};
+ghost use Rattle.mess.specs.Said.{says, mchunkwise};
 
 use crate::class::{Class, scan};
 use crate::mess::Mess;
+use crate::rest::Rest;
+use order::ElementOrder;
+use std::cmp::Ordering;
 use texts::table::Span;
+use word::{Word, compare_words};
 
-/// An MChunk by its place: a run that is digits, the letter r and digits, or anything else.
+/// An MChunk: a run, with the number that it writes if it is digits, or the letter r and digits. In the table of a
+/// Complex the run is a place in the text; handed out, it is a slice of a label or written from the numbers of one.
 #[derive(Clone, Copy)]
-pub enum MEntry {
-    Digits(u32, Span),
-    Rev(u32, Span),
-    Plain(Span),
+pub enum MChunk<T> {
+    Digits(u32, T),
+    Rev(u32, T),
+    Plain(T),
 }
 
-/// An MChunk: a run, with the number that it writes if it is digits, or the letter r and digits.
-#[derive(Clone, Copy)]
-pub enum MChunk<'a> {
-    Digits(u32, &'a [u8]),
-    Rev(u32, &'a [u8]),
-    Plain(&'a [u8]),
-}
-
-/// The entry of a run. Its class counts only where a dot, a level sign or the end stands behind the run.
-fn entry(class: Class, span: Span, behind: &[u8]) -> MEntry
+/// The MChunk of a run. Its class counts only where a dot, a level sign or the end stands behind the run.
+fn entry(class: Class, span: Span, behind: &[u8]) -> MChunk<Span>
     ensures { (text : List ℕ) → mchunk_in text result ≡ settled class behind.now (bytes_in text span) }
 {
     let ended = match behind {
@@ -34,61 +35,85 @@ fn entry(class: Class, span: Span, behind: &[u8]) -> MEntry
         [byte, ..] => *byte == b'.' || Mess::sep(*byte).is_some(),
     };
     match (class, ended) {
-        (Class::Digits(number), true) => MEntry::Digits(number, span),
-        (Class::Rev(number), true) => MEntry::Rev(number, span),
-        _ => MEntry::Plain(span),
+        (Class::Digits(number), true) => MChunk::Digits(number, span),
+        (Class::Rev(number), true) => MChunk::Rev(number, span),
+        _ => MChunk::Plain(span),
     }
 }
 
-impl MEntry {
+impl<T: Copy> MChunk<T> {
+    /// The run itself.
+    pub fn text(&self) -> T
+        ensures { (run : T → List ℕ) → run result ≡ text_of (said_by run self.now) }
+    {
+        match *self {
+            MChunk::Digits(_, text) | MChunk::Rev(_, text) | MChunk::Plain(text) => text,
+        }
+    }
+}
+
+impl MChunk<Span> {
+    /// The MChunk in front of a rest, and the rest behind it.
+    pub(crate) fn parse<'a>(rest: Rest<'a>) -> Option<(MChunk<Span>, Rest<'a>)>
+        ensures { GivesIn mchunk_in mchunk_of rest.entry result }
+    {
+        let (class, count) = scan(rest.bytes);
+        if count == 0 {
+            return None;
+        }
+        let behind = rest.behind(count);
+        let span = Span {
+            from: rest.from as u8,
+            to: behind.from as u8,
+        };
+        Some((entry(class, span, behind.bytes), behind))
+    }
+
     /// The run itself, in its text.
     pub fn bytes<'a>(&self, text: &'a [u8]) -> &'a [u8]
         ensures { result.now ≡ text_of (mchunk_in text.now self.now) }
     {
-        match *self {
-            MEntry::Digits(_, span) => span.bytes(text),
-            MEntry::Rev(_, span) => span.bytes(text),
-            MEntry::Plain(span) => span.bytes(text),
-        }
+        self.text().bytes(text)
     }
 }
 
-impl<'a> MChunk<'a> {
-    /// The MChunk at a place of a rest, and the place behind it. The rest begins at the place `from` of its text.
-    pub(crate) fn parse(rest: &[u8], at: usize, from: usize) -> Option<(MEntry, usize)>
-        requires { from + length rest.now ≤ 128 }
-        ensures { GivesIn mchunk_in mchunk_of from rest.now at result }
-    {
-        let (class, end) = scan(rest, at);
-        if end <= at {
-            return None;
-        }
-        let span = Span {
-            from: (from + at) as u8,
-            to: (from + end) as u8,
-        };
-        Some((entry(class, span, &rest[end..]), end))
-    }
-
-    /// What an entry of a table is in its text.
-    pub fn new(text: &'a [u8], entry: MEntry) -> MChunk<'a>
+impl<'a> MChunk<Word<'a>> {
+    /// What an MChunk of a table is in its text.
+    pub fn new(text: &'a [u8], entry: MChunk<Span>) -> MChunk<Word<'a>>
         ensures { says result ≡ mchunk_in text.now entry }
     {
+        let run = Word::text(entry.bytes(text));
         match entry {
-            MEntry::Digits(number, span) => MChunk::Digits(number, span.bytes(text)),
-            MEntry::Rev(number, span) => MChunk::Rev(number, span.bytes(text)),
-            MEntry::Plain(span) => MChunk::Plain(span.bytes(text)),
+            MChunk::Digits(number, _) => MChunk::Digits(number, run),
+            MChunk::Rev(number, _) => MChunk::Rev(number, run),
+            MChunk::Plain(_) => MChunk::Plain(run),
         }
     }
 
-    /// The run itself.
-    pub fn text(&self) -> &'a [u8]
-        ensures { result.now ≡ text_of (says self.now) }
+    /// Digits by number, Rev by number, Digits above Rev, all else by text.
+    pub fn cmp(&self, other: &MChunk<Word<'_>>) -> Ordering
+        ensures { result ≡ mchunk_order (says self.now) (says other.now) }
     {
-        match *self {
-            MChunk::Digits(_, text) => text,
-            MChunk::Rev(_, text) => text,
-            MChunk::Plain(text) => text,
+        match (*self, *other) {
+            (MChunk::Digits(m, _), MChunk::Digits(n, _)) => m.cmp(&n),
+            (MChunk::Rev(m, _), MChunk::Rev(n, _)) => m.cmp(&n),
+            (MChunk::Digits(_, _), MChunk::Rev(_, _)) => Ordering::Greater,
+            (MChunk::Rev(_, _), MChunk::Digits(_, _)) => Ordering::Less,
+            (a, b) => compare_words(&a.text(), &b.text()),
         }
     }
 }
+
+impl<'a> ElementOrder for MChunk<Word<'a>> {
+    ghost order = { mchunkwise };
+
+    fn compare(&self, other: &MChunk<Word<'a>>) -> Ordering {
+        self.cmp(other)
+    }
+}
+
+/// MChunks are in no strict order: 9 is below 10, 10 below 1a, and 1a below 9.
+pub fn mchunks_not_strict()
+    ensures ring { Ring }
+    ensures not_strict { NotStrict }
+{}

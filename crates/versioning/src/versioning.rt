@@ -47,10 +47,8 @@ impl Versioning {
         if let Ok((version, read)) = Version::parse(text) {
             return Ok((Versioning::General(version), read));
         }
-        match Mess::parse(text) {
-            Ok((mess, read)) => Ok((Versioning::Complex(mess), read)),
-            Err(fault) => Err(fault),
-        }
+        let (mess, read) = Mess::parse(text)?;
+        Ok((Versioning::Complex(mess), read))
     }
 
     /// The label that a text is, by the first of Ideal, General and Complex that takes it whole, or the fault: 1 for no
@@ -86,7 +84,7 @@ impl Versioning {
 }
 
 /// Major, minor or patch.
-fn semver_nth(semver: &SemVer, n: usize) -> Option<u32>
+pub fn semver_nth(semver: &SemVer, n: usize) -> Option<u32>
     ensures { result ≡ ideal_nth semver.now.major semver.now.minor semver.now.patch n }
 {
     match n {

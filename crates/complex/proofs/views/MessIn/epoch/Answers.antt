@@ -7,9 +7,9 @@ use Rattle.complex.proofs.views.MessIn.epoch.Goals as goal
 pub returns-in-Colon : goal.returns-in-Colon
 returns-in-Colon c =
     let p = parts_of c.args.self.now in
-    c.alone.ensures ∙ ap alone c.first.ensures ∙ colon_first (alone p.first) p.further _ c.in-Some.ensures c.in-Colon.is
+    c.alone.ensures ∙ ap alone c.first.ensures ∙ colon_first (alone p.first) p.further _ c.in_ok-sep.ensures c.in-Colon.is
 
-pub returns-in_default-sep : goal.returns-in_default-sep
-returns-in_default-sep c =
+pub returns-in_default : goal.returns-in_default
+returns-in_default c =
     let p = parts_of c.args.self.now in
-    other_first (alone p.first) p.further _ c.in-Some.ensures c.in_default-sep.not-Colon
+    other_first (alone p.first) p.further _ c.in_ok-sep.ensures c.in_default.not-Colon

@@ -1,30 +1,29 @@
-use Rattle.std.proofs.Common.{sym, ◌∙◌, arith, length-take}
-use Rattle.mess.specs.Tables.{rows_of, count_of}
+use Rattle.std.proofs.Common.{rules, length, Some, None, sym, subst}
+use Rattle.std.specs.Option.{option_map}
+use Rattle.texts.specs.Tables.{Taken, rows_of}
 use Rattle.mess.specs.Labels.{mchunks_in}
 use Rattle.mess.proofs.Handing.{mchunks_few}
-use Rattle.complex.proofs.Handing.{level_fits, a_level, no_level}
+use Rattle.complex.specs.Views.{parts_of, signed_in}
+use Rattle.complex.proofs.Handing.{a_level, no_level}
 use Rattle.complex.proofs.views.MessIn.level.Goals as goal
 
-pub overflow_add-self : goal.overflow_add-self
-overflow_add-self c =
-    let x = c.args.self.now in
-    omega (arith, level_fits (rows_of x.mess.now.levels) x.next c.len-count.result c.args.i c.in-Some.level c.in-Some.ensures, c.len-count.ensures.few)
-
-pub overflow_add-self-in-Some : goal.overflow_add-self-in-Some
-overflow_add-self-in-Some c =
-    let x = c.args.self.now in
-    omega (arith, level_fits (rows_of x.mess.now.levels) x.next c.len-count.result c.args.i c.in-Some.level c.in-Some.ensures, c.len-count.ensures.few)
-
-pub returns-in-Some : goal.returns-in-Some
-returns-in-Some c =
+pub returns-in_err-level : goal.returns-in_err-level
+returns-in_err-level c =
     let x = c.args.self.now in
     let m = x.mess.now in
-    a_level (mchunks_in x.text.now m.chunks) (count_of m.chunks) (mchunks_few x.text.now m.chunks) x.begin (rows_of m.levels) x.next c.len-count.result c.args.i
-    (c.len-count.ensures.count ∙ sym (length-take m.levels.count m.levels.rows)) c.in-Some.level c.begin.result c.in-Some.ensures c.begin.ensures
+    let i = c.args.i in
+    let t : Taken c.between.result.now i c.copied.result = search rules in
+    let u = subst (λ xs. Taken xs i None) c.between.ensures (subst (Taken c.between.result.now i) c.in_err-level.was t) in
+    subst (λ o. Taken (parts_of x).further i (option_map signed_in o)) (sym c.from_residual.ensures)
+    (no_level (mchunks_in x.text.now m.chunks) (length (rows_of m.chunks)) (mchunks_few x.text.now m.chunks) x.begin (rows_of m.levels) x.next c.len-count.result i c.len-count.ensures.count u)
 
-pub returns-in-None : goal.returns-in-None
-returns-in-None c =
+pub returns : goal.returns
+returns c =
     let x = c.args.self.now in
     let m = x.mess.now in
-    no_level (mchunks_in x.text.now m.chunks) (count_of m.chunks) (mchunks_few x.text.now m.chunks) x.begin (rows_of m.levels) x.next c.len-count.result c.args.i
-    (c.len-count.ensures.count ∙ sym (length-take m.levels.count m.levels.rows)) c.in-None.ensures
+    let i = c.args.i in
+    let l = c.in_ok-level.level in
+    let t : Taken c.between.result.now i c.copied.result = search rules in
+    let u = subst (λ xs. Taken xs i (Some l)) c.between.ensures (subst (Taken c.between.result.now i) c.in_ok-level.was t) in
+    subst (λ cs. Taken (parts_of x).further i (Some (l.sep, cs))) (sym c.between-2.ensures)
+    (a_level (mchunks_in x.text.now m.chunks) (length (rows_of m.chunks)) (mchunks_few x.text.now m.chunks) x.begin (rows_of m.levels) x.next c.len-count.result i c.len-count.ensures.count l c.begin-end.result u c.begin-end.ensures)

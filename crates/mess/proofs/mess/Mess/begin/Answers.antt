@@ -1,10 +1,9 @@
-use Rattle.std.proofs.Common.{sym, ◌∙◌}
-use Rattle.mess.specs.Tables.{rows_of}
-use Rattle.mess.proofs.Handing.{begins, begins_none}
+use Rattle.std.proofs.Common.{rules, length}
+use Rattle.texts.specs.Tables.{rows_of}
+use Rattle.mess.proofs.Handing.{begun}
 use Rattle.mess.proofs.mess.Mess.begin.Goals as goal
 
-pub returns-in-Some : goal.returns-in-Some
-returns-in-Some c = sym (begins _ (rows_of c.args.self.now.levels) c.args.i _ c.in-Some.ensures.row)
-
-pub returns-in-None : goal.returns-in-None
-returns-in-None c = c.len.ensures.count ∙ sym (begins_none _ (rows_of c.args.self.now.levels) c.args.i c.in-None.ensures.row)
+pub returns : goal.returns
+returns c =
+    let m = c.args.self.now in
+    begun (length (rows_of m.chunks)) c.len.result (rows_of m.levels) c.args.i c.get.result _ c.get.ensures.row c.map_or.result c.len.ensures.count (λ l p. search rules) c.map_or.ensures
