@@ -1,8 +1,8 @@
 -- Ideals and Generals as Complexes. Assumes nothing.
 use Rattle.std.specs.Prelude.{ℕ, List, [], ◌∷◌, ◌++◌, map, Some, None, decimal, Option}
 use Rattle.std.specs.Option.{option_map}
-use Rattle.texts.specs.Piece as piece
-use Rattle.texts.specs.Piece.{Piece}
+use Rattle.chunk.specs.Piece as piece
+use Rattle.chunk.specs.Piece.{Piece}
 use Rattle.standard.specs.Parts as standard
 use Rattle.version.specs.Parts as version
 use Rattle.version.specs.Parts.{LastPart, numeric, rc, post, alphanum}

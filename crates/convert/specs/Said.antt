@@ -1,13 +1,13 @@
 -- What converted labels say. Assumes nothing.
 use Rattle.std.specs.Prelude.{List, [], ◌∷◌, ◌++◌, map}
-use Rattle.chunk.specs.Tables.{listed_in, view_in}
+use Rattle.chunk.specs.Tables.{listed_in}
 use Rattle.general.specs.Views as general
 use Rattle.ideals.specs.Views as ideal
 use Rattle.mess.specs.declared.sep.Sep.{Sep}
 use Rattle.mess.specs.Parts.{MChunk, Parts}
 use Rattle.order.specs.Orders.{Order, listwise}
 use Rattle.complex.specs.Order.{levels_of}
-use Rattle.complex.specs.Said.{says, mchunkwise}
+use Rattle.mess.specs.Said.{says, mchunkwise}
 use Rattle.complex.specs.Views as complex
 use Rattle.convert.specs.declared.level.Level.{Level}
 use Rattle.convert.specs.declared.level.Level.TheVariants.{Read, Numbers, Chunks, Release, One}
@@ -20,7 +20,7 @@ abbrev pub level_said : Level → List MChunk
 level_said (Read l) = complex.level_in l
 level_said (Numbers major minor patch) = number_mchunk major ∷ number_mchunk minor ∷ number_mchunk patch ∷ []
 level_said (Chunks cs last) = map chunk_mchunk (listed_in cs) ++ last_mchunk (general.last_said last) ∷ []
-level_said (Release r) = map chunk_mchunk (view_in r)
+level_said (Release r) = map chunk_mchunk (listed_in r)
 level_said (One c) = says c ∷ []
 
 -- a Complex, or a label as it is converted

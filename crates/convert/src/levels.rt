@@ -3,18 +3,21 @@ ghost use Rattle.std.specs.Prelude.{◌≡◌, ◌+◌, ◌<◌, length, refl};
 ghost use Rattle.std.specs.Option.{option_map};
 ghost use Rattle.order.specs.Orders.{Same};
 ghost use Rattle.texts.specs.Tables.{Taken};
+ghost use Rattle.chunk.specs.Tables.{listed_in};
+ghost use Rattle.mess.specs.declared.sep.Sep.TheVariants.{Hyphen, Plus};
 ghost use Rattle.ideals.specs.Views.{parts_of as ideal_parts};
 ghost use Rattle.general.specs.Views.{parts_of as general_parts};
 ghost use Rattle.complex.specs.Order.{complex_order};
 ghost use Rattle.complex.specs.Views.{parts_of as mess_parts};
-ghost use Rattle.convert.specs.Convert.{ideal_to_mess, body_to_mess, general_to_mess};
+ghost use Rattle.convert.specs.Convert.{release_level, meta_level, ideal_to_mess, body_to_mess, general_to_mess};
 ghost use Rattle.convert.specs.Said.{level_said, mess_said, signed_said, levelwise, levels_said};
 
 use crate::level::{Level, number_mchunk};
-use complex::mchunk::MChunk;
+use chunk::chunks::ChunksIn;
 use complex::views::MessIn;
 use general::general::VersionIn;
 use ideals::ideal::IdealIn;
+use mess::mchunk::MChunk;
 use mess::sep::Sep;
 use order::{Parts, compare_lists};
 use std::cmp::Ordering;
@@ -40,14 +43,29 @@ fn body<'a>(general: VersionIn<'a>) -> Level<'a>
     Level::Chunks(general.chunks(), general.last())
 }
 
+/// The level of a Release, behind a hyphen.
+fn release_level<'a>(release: Option<ChunksIn<'a>>) -> Option<(Sep, Level<'a>)>
+    ensures { option_map signed_said result ≡ option_map (λ l. (Hyphen, l)) (release_level (option_map listed_in release.entry)) }
+{
+    release.map(|release| (Sep::Hyphen, Level::Release(release)))
+}
+
+/// The level of metadata, behind a plus sign.
+fn meta_level<'a>(meta: Option<&'a [u8]>) -> Option<(Sep, Level<'a>)>
+    ensures { option_map signed_said result ≡ option_map (λ l. (Plus, l)) (meta_level (option_map (λ s. s.now) meta.entry)) }
+{
+    meta.map(|meta| (Sep::Plus, Level::One(MChunk::Plain(Word::text(meta)))))
+}
+
 /// The level behind the first of an Ideal, or that behind it.
 fn ideal_level<'a>(ideal: IdealIn<'a>, i: usize) -> Option<(Sep, Level<'a>)>
     ensures { Taken (ideal_to_mess (ideal_parts ideal.entry)).further i (option_map signed_said result) }
 {
-    match (ideal.release(), ideal.meta(), i) {
-        (Some(release), _, 0) => Some((Sep::Hyphen, Level::Release(release))),
-        (None, Some(meta), 0) => Some((Sep::Plus, Level::One(MChunk::Plain(Word::text(meta))))),
-        (Some(_), Some(meta), 1) => Some((Sep::Plus, Level::One(MChunk::Plain(Word::text(meta))))),
+    let release = release_level(ideal.release());
+    let meta = meta_level(ideal.meta());
+    match i {
+        0 => release.or(meta),
+        1 => release.and(meta),
         _ => None,
     }
 }
@@ -56,8 +74,8 @@ fn ideal_level<'a>(ideal: IdealIn<'a>, i: usize) -> Option<(Sep, Level<'a>)>
 fn body_level<'a>(general: VersionIn<'a>, i: usize) -> Option<(Sep, Level<'a>)>
     ensures { Taken (body_to_mess (general_parts general.entry)).further i (option_map signed_said result) }
 {
-    match (general.release(), i) {
-        (Some(release), 0) => Some((Sep::Hyphen, Level::Release(release))),
+    match i {
+        0 => release_level(general.release()),
         _ => None,
     }
 }
@@ -66,44 +84,33 @@ fn body_level<'a>(general: VersionIn<'a>, i: usize) -> Option<(Sep, Level<'a>)>
 fn general_level<'a>(general: VersionIn<'a>, i: usize) -> Option<(Sep, Level<'a>)>
     ensures { Taken (general_to_mess (general_parts general.entry)).further i (option_map signed_said result) }
 {
-    let Some(_) = general.epoch() else {
-        return body_level(general, i);
-    };
-    if i == 0 {
-        return Some((Sep::Colon, body(general)));
+    match (general.epoch(), i) {
+        (None, _) => body_level(general, i),
+        (Some(_), 0) => Some((Sep::Colon, body(general))),
+        (Some(_), _) => body_level(general, i - 1),
     }
-    body_level(general, i - 1)
 }
 
 /// A further level of a Complex.
 fn read_level<'a>(mess: MessIn<'a>, i: usize) -> Option<(Sep, Level<'a>)>
     ensures { Taken (mess_parts mess.entry).further i (option_map signed_said result) }
 {
-    match mess.level(i) {
-        Some((sep, level)) => Some((sep, Level::Read(level))),
-        None => None,
-    }
+    let (sep, level) = mess.level(i)?;
+    Some((sep, Level::Read(level)))
 }
 
 /// The number of the further levels of an Ideal.
 fn ideal_further(ideal: IdealIn<'_>) -> usize
     ensures { result ≡ length (ideal_to_mess (ideal_parts ideal.entry)).further }
 {
-    match (ideal.release(), ideal.meta()) {
-        (Some(_), Some(_)) => 2,
-        (None, None) => 0,
-        _ => 1,
-    }
+    usize::from(ideal.release().is_some()) + usize::from(ideal.meta().is_some())
 }
 
 /// The number of the levels behind the chunks of a General.
 fn body_further(general: VersionIn<'_>) -> usize
     ensures { result ≡ length (body_to_mess (general_parts general.entry)).further }
 {
-    match general.release() {
-        Some(_) => 1,
-        None => 0,
-    }
+    usize::from(general.release().is_some())
 }
 
 impl<'a> Levels<'a> {
@@ -118,6 +125,7 @@ impl<'a> Levels<'a> {
                 ideal.semver.minor,
                 ideal.semver.patch,
             ),
+            // not `map_or_else`: a closure that captures a view ensures nothing to its caller (tried)
             Levels::General(general) => match general.epoch() {
                 Some(epoch) => Level::One(number_mchunk(epoch)),
                 None => body(general),
@@ -134,10 +142,9 @@ impl<'a> Levels<'a> {
         match *self {
             Levels::Complex(mess) => mess.further(),
             Levels::Ideal(ideal) => ideal_further(ideal),
-            Levels::General(general) => match general.epoch() {
-                Some(_) => body_further(general) + 1,
-                None => body_further(general),
-            },
+            Levels::General(general) => {
+                usize::from(general.epoch().is_some()) + body_further(general)
+            }
             Levels::Body(general) => body_further(general),
         }
     }
@@ -174,6 +181,7 @@ impl<'a> Parts for Levels<'a> {
         if i == 0 {
             return self.first();
         }
+        // not `map_or_else`: as in `first`
         match self.level(i - 1) {
             Some((_, level)) => level,
             None => self.first(),
@@ -190,6 +198,6 @@ impl<'a> Levels<'a> {
     pub fn cmp(&self, other: &Levels<'_>) -> Ordering
         ensures { result ≡ complex_order (mess_said self.now) (mess_said other.now) }
     {
-        compare_lists(&*self, &*other)
+        compare_lists(self, other)
     }
 }

@@ -1,5 +1,5 @@
 -- A General and a Complex that meet position by position. Assumes nothing.
-use Rattle.std.proofs.Common.{◌≡◌, ℕ, zero, suc, ◌+◌, ◌-◌, ◌<◌, ◌≤◌, List, [], ◌∷◌, length, Some, None, Ordering, Equal, sym, refl, ap, ◌∙◌, arith}
+use Rattle.std.proofs.Common.{◌≡◌, ℕ, zero, suc, ◌+◌, List, [], ◌∷◌, length, Some, Ordering, Equal, refl, ap, ◌∙◌, arith}
 use Rattle.std.specs.Ordering.{ordering_then, nat_cmp}
 use Rattle.version.specs.Parts as version
 use Rattle.version.specs.Numbers as general
@@ -12,44 +12,7 @@ use Rattle.complex.specs.Order.{complex_order}
 use Rattle.convert.specs.Convert.{body_to_mess}
 use Rattle.complex.specs.Fronts.{behind, alone, before_colon, behind_first, epoch_like}
 use Rattle.general.specs.Order.{era}
-use Rattle.mixed.specs.Generals.{meets}
 use Rattle.mixed.specs.Complexes.{meet, meet_from, by_positions, by_epoch}
-use Rattle.mixed.proofs.Meeting.{tie, decided, unmet}
-
-module _ (g : version.Parts) (m : mess.Parts) (converted : Ordering) where
-  -- how many positions are left
-  abbrev pub left : ℕ → ℕ
-  left n = length g.chunks + 1 - n
-
-  unrolled : (n k : ℕ) → 0 < k → meet (general.nth_of g n) (complex.nth_of n m) converted (meet_from g m converted (n + 1) (k - 1)) ≡ meet_from g m converted n k
-  unrolled n zero h = absurd (omega arith)
-  unrolled n (suc k) h = ap (λ j. meet (general.nth_of g n) (complex.nth_of n m) converted (meet_from g m converted (n + 1) j)) (omega arith)
-
-  module _ (n : ℕ) (sofar : by_positions g m converted ≡ meet_from g m converted n (left n)) where
-    pub all_met : length g.chunks + 1 ≤ n → {r : Ordering} → r ≡ converted → r ≡ by_positions g m converted
-    all_met h i = let z : 0 ≡ left n = omega arith in i ∙ ap (meet_from g m converted n) z ∙ sym sofar
-
-    module _ (more : n < length g.chunks + 1) where
-      whole : meet (general.nth_of g n) (complex.nth_of n m) converted (meet_from g m converted (n + 1) (left n - 1)) ≡ by_positions g m converted
-      whole = unrolled n (left n) (omega arith) ∙ sym sofar
-
-      pub none_here : None ≡ general.nth_of g n → {r : Ordering} → r ≡ converted → r ≡ by_positions g m converted
-      none_here e i = i ∙ ap (λ o. meet o (complex.nth_of n m) converted (meet_from g m converted (n + 1) (left n - 1))) e ∙ whole
-
-      module _ {a : ℕ} (here : Some a ≡ general.nth_of g n) where
-        met : meets a (complex.nth_of n m) converted (meet_from g m converted (n + 1) (left n - 1)) ≡ by_positions g m converted
-        met = ap (λ o. meet o (complex.nth_of n m) converted (meet_from g m converted (n + 1) (left n - 1))) here ∙ whole
-
-        pub none_there : None ≡ complex.nth_of n m → {r : Ordering} → r ≡ converted → r ≡ by_positions g m converted
-        none_there e i = unmet a _ converted _ _ e i ∙ met
-
-        pub decides : {b : ℕ} {r : Ordering} → Some b ≡ complex.nth_of n m → r ≡ nat_cmp a b → (r ≡ Equal → ⊥) → r ≡ by_positions g m converted
-        decides e h d = decided a _ _ converted _ _ e h d ∙ met
-
-        pub goes_on : {b : ℕ} → Some b ≡ complex.nth_of n m → Equal ≡ nat_cmp a b → by_positions g m converted ≡ meet_from g m converted (n + 1) (left (n + 1))
-        goes_on e i =
-            let z : left n - 1 ≡ left (n + 1) = omega arith in
-            sym (tie a _ _ converted _ _ e i refl ∙ met) ∙ ap (meet_from g m converted (n + 1)) z
 
 -- the numbers of a Complex whose first level a colon follows are those behind the colon
 numbers_behind : (c : List MChunk) (ls : List (Sep × List MChunk)) (e : ℕ) (rest : mess.Parts) → Some e ≡ before_colon (alone c) ls → Some rest ≡ behind ls → (n : ℕ)

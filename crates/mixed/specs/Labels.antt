@@ -18,7 +18,8 @@ use Rattle.order.specs.Carry.{lex_balanced}
 use Rattle.lenient.specs.Order.{twice}
 use Rattle.general.specs.Laws.{by_balanced}
 use Rattle.general.specs.Order.{era, general_order, general_balanced}
-use Rattle.complex.specs.Order.{mchunk_balanced, levels_of, complex_order}
+use Rattle.mess.specs.Order.{mchunk_balanced}
+use Rattle.complex.specs.Order.{levels_of, complex_order}
 use Rattle.mixed.specs.Generals.{ideal_general}
 use Rattle.mixed.specs.Complexes.{ideal_complex, general_complex}
 

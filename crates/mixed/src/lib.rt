@@ -2,6 +2,8 @@
 #![tactic(auto)]
 
 pub mod label;
+pub mod numbers;
 pub mod semver;
 pub mod semver_mess;
 pub mod version_mess;
+pub mod whole;

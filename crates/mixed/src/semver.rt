@@ -2,28 +2,18 @@
 ghost use Rattle.std.specs.Prelude.{◌≡◌, drop};
 ghost use Rattle.chunk.specs.Said.{says};
 ghost use Rattle.ideals.specs.Views.{parts_of as ideal_parts};
-ghost use Rattle.general.specs.Order.{era};
 ghost use Rattle.general.specs.Views.{parts_of as general_parts};
-ghost use Rattle.mixed.specs.Generals.{before_chunk, tied, by_patch, by_minor, by_major, ideal_general};
+ghost use Rattle.mixed.specs.Generals.{before_chunk, tied, ideal_general};
 
+use crate::numbers::meet;
 use chunk::chunk::Chunk;
 use general::general::VersionIn;
-use general::last::LastIn;
 use ideals::ideal::IdealIn;
 use std::cmp::Ordering;
-
-/// The epoch of a General, absent counting 0.
-pub fn epoch(general: &VersionIn<'_>) -> u32
-    ensures { result ≡ era (general_parts general.now) }
-{
-    match general.epoch() {
-        Some(epoch) => epoch,
-        None => 0,
-    }
-}
+use version::last::Last;
 
 /// A tie of all three numbers before a fourth chunk: its sort decides, not its value.
-fn before_chunk(fourth: Chunk<'_>) -> Ordering
+fn before_chunk(fourth: Chunk<&[u8]>) -> Ordering
     ensures { result ≡ before_chunk (says fourth.entry) }
 {
     match fourth {
@@ -42,61 +32,27 @@ fn cmp_tied(ideal: &IdealIn<'_>, general: &VersionIn<'_>) -> Ordering
     if let Some(fourth) = chunks.get(3) {
         return before_chunk(fourth);
     }
-    match (chunks.get(2), general.last(), ideal.release()) {
+    match (chunks.get(2), general.last().0, ideal.release()) {
         // 1.2.3 is above 1.2.3.git
-        (Some(_), LastIn::Alphanum(_), _) => Ordering::Greater,
+        (Some(_), Last::Alphanum(_), _) => Ordering::Greater,
         (Some(_), _, _) => Ordering::Less,
         // 1.2.3 is above 1.2.3rc1
-        (None, LastIn::Rc(_, _, _) | LastIn::Post(_, _), None) => Ordering::Greater,
+        (None, Last::Rc(_, _, _) | Last::Post(_, _), None) => Ordering::Greater,
         (None, _, _) => Ordering::Equal,
     }
 }
 
-/// The patch against the third number.
-fn cmp_patch(ideal: &IdealIn<'_>, general: &VersionIn<'_>) -> Ordering
-    ensures { result ≡ by_patch (ideal_parts ideal.now) (general_parts general.now) }
-{
-    match general.version.nth(2) {
-        Some(number) => match ideal.semver.patch.cmp(&number) {
-            Ordering::Equal => cmp_tied(ideal, general),
-            decided => decided,
-        },
-        None => Ordering::Greater,
-    }
-}
-
-/// The minor against the second number.
-fn cmp_minor(ideal: &IdealIn<'_>, general: &VersionIn<'_>) -> Ordering
-    ensures { result ≡ by_minor (ideal_parts ideal.now) (general_parts general.now) }
-{
-    match general.version.nth(1) {
-        Some(number) => match ideal.semver.minor.cmp(&number) {
-            Ordering::Equal => cmp_patch(ideal, general),
-            decided => decided,
-        },
-        None => Ordering::Greater,
-    }
-}
-
-/// The major against the first number.
-fn cmp_major(ideal: &IdealIn<'_>, general: &VersionIn<'_>) -> Ordering
-    ensures { result ≡ by_major (ideal_parts ideal.now) (general_parts general.now) }
-{
-    match general.version.nth(0) {
-        Some(number) => match ideal.semver.major.cmp(&number) {
-            Ordering::Equal => cmp_minor(ideal, general),
-            decided => decided,
-        },
-        None => Ordering::Greater,
-    }
-}
-
-/// An Ideal against a General. A General with an epoch above 0 is Greater.
+/// An Ideal against a General: major, minor and patch meet its numbers, and where one is absent the Ideal is Greater. A
+/// General with an epoch above 0 is Greater.
 pub fn cmp_version(ideal: &IdealIn<'_>, general: &VersionIn<'_>) -> Ordering
     ensures { result ≡ ideal_general (ideal_parts ideal.now) (general_parts general.now) }
 {
-    if epoch(general) > 0 {
+    if general.epoch_or_zero() > 0 {
         return Ordering::Less;
     }
-    cmp_major(ideal, general)
+    match meet(ideal, general, 3) {
+        Ok(decided) => decided,
+        Err(3) => cmp_tied(ideal, general),
+        Err(_) => Ordering::Greater,
+    }
 }

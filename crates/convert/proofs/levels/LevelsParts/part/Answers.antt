@@ -1,10 +1,7 @@
 use Rattle.std.proofs.Common.{arith}
-use Rattle.complex.proofs.Handing.{levels_counted, level_part}
+use Rattle.complex.proofs.Handing.{level_part}
 use Rattle.convert.specs.Said.{mess_said}
 use Rattle.convert.proofs.levels.LevelsParts.part.Goals as goal
 
 pub returns-in-Some : goal.returns-in-Some
 returns-in-Some c = level_part (mess_said c.args.self.now) c.args.i _ (omega arith) c.in-Some.ensures
-
-pub returns-in-None : goal.returns-in-None
-returns-in-None c = absurd (omega (arith, c.requires, c.in-None.ensures, levels_counted (mess_said c.args.self.now)))
