@@ -1,7 +1,8 @@
 -- What is written for a line. Assumes nothing.
 use Rattle.std.specs.Prelude.{ℕ, cond, List, [], length, Some, None, Option, nat_le}
 use Rattle.lines.specs.Hex.{unhexed}
-use Rattle.protocol.specs.Commands.{Asked, silent, new, parse, compare, comment, command_of}
+use Rattle.protocol.specs.Commands.{Asked, silent, new, parse, compare, command_of}
+use Rattle.lines.specs.Line.{comment}
 use Rattle.protocol.specs.Commands as commands
 use Rattle.protocol.specs.Answers.{Said, bad, new_answer, parse_answer, compare_answer}
 use Rattle.replies.specs.Written.{line_of}

@@ -1,89 +1,71 @@
 //! The reply to a line.
-ghost use Rattle.std.specs.Prelude.{◌≡◌, ◌++◌, length, OnOk};
-ghost use Rattle.std.specs.Option.{option_map};
-ghost use Rattle.protocol.specs.Answers.{new_answer, parse_answer, compare_answer};
+ghost use Rattle.std.specs.Prelude.{◌≡◌, Some, None, length, MatchResult};
+ghost use Rattle.protocol.specs.Answers.{said};
+ghost use Rattle.protocol.specs.Commands.{found};
+ghost use Rattle.written.specs.Written.{Adds};
 ghost use Rattle.replies.specs.Written.{line_of};
-ghost use Rattle.replies.specs.Replies.{text_within, with_text, reply_to, passed_over};
+ghost use Rattle.replies.specs.Replies.{text_within, reply, reply_to, passed_over};
 
 use crate::writing::write_answer;
 use lines::hex::unhex;
-use protocol::answer::Answer;
+use lines::line::is_comment;
+use protocol::answer::{Answer, Refusal};
 use protocol::answering::{answer_compare, answer_new, answer_parse};
-use protocol::asked::{Command, Form};
-use protocol::reading::{command, is_comment};
+use protocol::asked::{BadCommand, Command};
+use protocol::reading::command;
 use std::alloc::AllocError;
 
-// The text that a field writes, put into the room for it.
-fn text_in<'a>(hex: &[u8], room: &'a mut [u8]) -> Option<&'a [u8]>
-    ensures { option_map (λ x. x.now) result ≡ text_within (length room.old) hex.now }
+/// The room for the texts of a command: for two, where it compares.
+#[derive(Drop)]
+pub struct Rooms<'a> {
+    pub one: &'a mut [u8],
+    pub other: &'a mut [u8],
+}
+
+// The text that a field writes, put into the room for it. A field that writes none, or too long a text, is no command.
+fn text_in<'a>(hex: &[u8], room: &'a mut [u8]) -> Result<&'a [u8], BadCommand>
+    ensures { MatchResult result (λ text. text_within (length room.old) hex.now ≡ Some text.now) (λ _. text_within (length room.old) hex.now ≡ None) }
 {
-    match unhex(hex, room) {
-        Some(count) => Some(&room[0..count]),
-        None => None,
+    let count = unhex(hex, room).ok_or(BadCommand)?;
+    Ok(&room[..count])
+}
+
+// What a command is answered.
+fn answer<'a>(
+    asked: Result<Command<'_>, BadCommand>,
+    rooms: Rooms<'a>,
+) -> Result<Answer<'a>, Refusal>
+    ensures { line_of (said result) ≡ reply (length rooms.entry.one.now) (length rooms.entry.other.now) (found asked.entry) }
+{
+    let Rooms { one, other } = rooms;
+    match asked? {
+        Command::New(form, hex) => answer_new(form, text_in(hex, one)?),
+        Command::Parse(form, hex) => answer_parse(form, text_in(hex, one)?),
+        Command::Compare(form, first, second) => {
+            let s = text_in(first, one)?;
+            let t = text_in(second, other)?;
+            answer_compare(form, s, t)
+        }
     }
 }
 
-fn reply_new(out: &mut Vec<u8>, form: Form, hex: &[u8], room: &mut [u8]) -> Result<(), AllocError>
-    ensures { OnOk result (out.new.items ≡ out.old.items ++ line_of (with_text (text_within (length room.old) hex.now) (new_answer form))) }
-{
-    match text_in(hex, room) {
-        Some(text) => write_answer(out, text, &answer_new(form, text)),
-        None => write_answer(out, &[], &Answer::Bad),
-    }
-}
-
-fn reply_parse(out: &mut Vec<u8>, form: Form, hex: &[u8], room: &mut [u8]) -> Result<(), AllocError>
-    ensures { OnOk result (out.new.items ≡ out.old.items ++ line_of (with_text (text_within (length room.old) hex.now) (parse_answer form))) }
-{
-    match text_in(hex, room) {
-        Some(text) => write_answer(out, text, &answer_parse(form, text)),
-        None => write_answer(out, &[], &Answer::Bad),
-    }
-}
-
-fn reply_compare(
-    out: &mut Vec<u8>,
-    form: Form,
-    first: &[u8],
-    second: &[u8],
-    one: &mut [u8],
-    other: &mut [u8],
-) -> Result<(), AllocError>
-    ensures { OnOk result (out.new.items ≡ out.old.items ++ line_of (with_text (text_within (length one.old) first.now) (λ s. with_text (text_within (length other.old) second.now) (λ t. compare_answer form s t)))) }
-{
-    match (text_in(first, one), text_in(second, other)) {
-        (Some(s), Some(t)) => write_answer(out, s, &answer_compare(form, s, t)),
-        _ => write_answer(out, &[], &Answer::Bad),
-    }
-}
-
-/// Adds the reply to a line; `one` and `other` are the room for its texts.
-pub fn reply(
-    out: &mut Vec<u8>,
-    line: &[u8],
-    one: &mut [u8],
-    other: &mut [u8],
-) -> Result<(), AllocError>
-    ensures { OnOk result (out.new.items ≡ out.old.items ++ reply_to (length one.old) (length other.old) line.now) }
+/// Adds the reply to a line.
+pub fn reply(out: &mut Vec<u8>, line: &[u8], rooms: Rooms<'_>) -> Result<(), AllocError>
+    ensures { Adds result out.old.items out.new.items (reply_to (length rooms.entry.one.now) (length rooms.entry.other.now) line.now) }
 {
     match command(line) {
-        Command::Silent => Ok(()),
-        Command::Bad => write_answer(out, &[], &Answer::Bad),
-        Command::New(form, hex) => reply_new(out, form, hex, one),
-        Command::Parse(form, hex) => reply_parse(out, form, hex, one),
-        Command::Compare(form, first, second) => reply_compare(
-            out, form, first, second, one, other,
-        ),
+        Some(asked) => write_answer(out, answer(asked, rooms)),
+        None => Ok(()),
     }
 }
 
 /// Adds the reply to a line that is too long to be kept, by its first bytes.
 pub fn pass_over(out: &mut Vec<u8>, front: &[u8]) -> Result<(), AllocError>
-    ensures { OnOk result (out.new.items ≡ out.old.items ++ passed_over front.now) }
+    ensures { Adds result out.old.items out.new.items (passed_over front.now) }
 {
     if is_comment(front) {
         Ok(())
     } else {
-        write_answer(out, &[], &Answer::Bad)
+        write_answer(out, Err(Refusal::Bad))
     }
 }

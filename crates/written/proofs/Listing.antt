@@ -1,8 +1,7 @@
 -- The parts of a list are written one by one, each but the first behind a comma.
-use Rattle.std.proofs.Common.{◌≡◌, ℕ, zero, suc, ◌+◌, ◌<◌, ◌≤◌, List, [], ◌∷◌, ◌++◌, length, get_or, take, Some, codes, sym, ap, ◌∙◌, append_assoc, add-one, arith}
+use Rattle.std.proofs.Common.{◌≡◌, ℕ, zero, suc, ◌+◌, ◌<◌, ◌≤◌, List, [], ◌∷◌, ◌++◌, length, get_or, take, codes, sym, ap, ◌∙◌, append_assoc, add-one, arith}
 use Rattle.std.proofs.lemmas.List.{append-nil, flat_map_more, take_more, take_all}
 use Rattle.std.proofs.lemmas.Bool.{cond-false, ne_eqb}
-use Rattle.texts.specs.Tables.{Taken}
 use Rattle.written.specs.Written.{comma_before, list_text}
 
 module _ {A : Type 0} (text : A → List ℕ) where
@@ -17,10 +16,6 @@ module _ {A : Type 0} (text : A → List ℕ) where
   module _ (xs : List A) (s now : List ℕ) (i : ℕ) (sofar : now ≡ s ++ list_text text (take i xs)) where
     pub more : {mid last : List ℕ} {x : A} → mid ≡ now ++ comma_before i → i < length xs → x ≡ get_or xs i x → last ≡ mid ++ text x → last ≡ s ++ list_text text (take (i + 1) xs)
     more {x = x} p h e q = rw (q, p, sofar, next xs i x h, ← e) (simp append_assoc)
-
-    -- a part that is handed out, if there is one
-    pub more_taken : {mid last : List ℕ} {x : A} → mid ≡ now ++ comma_before i → Taken xs i (Some x) → last ≡ mid ++ text x → last ≡ s ++ list_text text (take (i + 1) xs)
-    more_taken {x = x} p t q = more p t.0 (sym (t.1 x)) q
 
     pub all : length xs ≤ i → now ≡ s ++ list_text text xs
     all h = sofar ∙ ap (λ t. s ++ list_text text t) (take_all i xs h)

@@ -1,17 +1,21 @@
 -- How the parts of a label are written. Assumes nothing.
-use Rattle.std.specs.Prelude.{ℕ, cond, List, [], ◌∷◌, ◌++◌, Some, None, codes, decimal, Option, ◌==◌}
+use Rattle.std.specs.Prelude.{◌≡◌, ℕ, Result, OnOk, cond, List, [], ◌∷◌, ◌++◌, Some, None, codes, decimal, Option, ◌==◌}
 use Rattle.std.specs.List.{flat_map}
-use Rattle.texts.specs.Piece as piece
-use Rattle.texts.specs.Piece.{Piece}
+use Rattle.chunk.specs.Piece as piece
+use Rattle.chunk.specs.Piece.{Piece}
 use Rattle.standard.specs.Parts as standard
 use Rattle.version.specs.Parts as version
 use Rattle.version.specs.Parts.{LastPart, numeric, rc, post, alphanum}
 use Rattle.mess.specs.declared.sep.Sep.{Sep}
-use Rattle.mess.specs.declared.sep.Sep.TheVariants.{Colon, Hyphen, Plus, Underscore, Tilde}
+use Rattle.mess.specs.Signs.{sep_byte}
 use Rattle.mess.specs.Parts as mess
 use Rattle.mess.specs.Parts.{MChunk, digits, rev, plain}
 use Rattle.versioning.specs.First.{ideal, general, complex}
 use Rattle.versioning.specs.Labels.{Parts}
+
+-- a text is added to bytes, where memory suffices
+abbrev pub Adds : {T E : Type 0} → Result T E → List ℕ → List ℕ → List ℕ → Type 0
+Adds result before after text = OnOk result (after ≡ before ++ text)
 
 -- a comma, but at the first place
 abbrev pub comma_before : ℕ → List ℕ
@@ -30,13 +34,16 @@ piece_text (piece.alphanum s) = codes "A:" ++ s
 abbrev pub pieces_text : List Piece → List ℕ
 pieces_text xs = list_text piece_text xs
 
+-- what may be absent
+abbrev pub option_text : {A : Type 0} → (A → List ℕ) → Option A → List ℕ
+option_text text None = codes "_"
+option_text text (Some x) = text x
+
 abbrev pub release_text : Option (List Piece) → List ℕ
-release_text None = codes "_"
-release_text (Some xs) = pieces_text xs
+release_text release = option_text pieces_text release
 
 abbrev pub meta_text : Option (List ℕ) → List ℕ
-meta_text None = codes "_"
-meta_text (Some s) = s
+meta_text meta = option_text (λ s. s) meta
 
 -- what stands behind the numbers of an Ideal, and behind the Last of a General
 abbrev pub tail_text : Option (List Piece) → Option (List ℕ) → List ℕ
@@ -49,8 +56,7 @@ abbrev pub ideal_text : standard.Parts → List ℕ
 ideal_text p = codes "semver;" ++ numbers_text p.major p.minor p.patch ++ tail_text p.release p.meta
 
 abbrev pub epoch_text : Option ℕ → List ℕ
-epoch_text None = codes "_"
-epoch_text (Some n) = decimal n
+epoch_text epoch = option_text decimal epoch
 
 abbrev pub last_text : LastPart → List ℕ
 last_text (numeric n) = codes "N:" ++ decimal n
@@ -68,14 +74,6 @@ mchunk_text (plain w) = codes "P:" ++ w
 
 abbrev pub level_text : List MChunk → List ℕ
 level_text cs = list_text mchunk_text cs
-
--- the byte of a level sign
-abbrev pub sep_byte : Sep → ℕ
-sep_byte Colon = 58
-sep_byte Hyphen = 45
-sep_byte Plus = 43
-sep_byte Underscore = 95
-sep_byte Tilde = 126
 
 -- a further level behind its sign
 abbrev pub further_text : Sep × List MChunk → List ℕ

@@ -1,114 +1,102 @@
 //! Writing Complexes.
-ghost use Rattle.std.specs.Prelude.{◌≡◌, ◌++◌, OnOk};
+ghost use Rattle.std.specs.Prelude.{◌≡◌};
 ghost use Rattle.std.specs.List.{flat_map};
 ghost use Rattle.word.specs.Words.{written as digits_of, word_of};
-ghost use Rattle.complex.specs.Said.{says};
-ghost use Rattle.convert.specs.Said.{level_said, mess_said};
-ghost use Rattle.written.specs.Written.{mchunk_text, level_text, sep_byte, further_text, complex_text};
+ghost use Rattle.mess.specs.Said.{says};
+ghost use Rattle.convert.specs.Said.{level_said, mess_said, signed_said};
+ghost use Rattle.written.specs.Written.{Adds, mchunk_text, level_text, further_text, complex_text};
 
-use crate::chunks::write_comma;
-use crate::number::write_number;
-use complex::mchunk::MChunk;
+use crate::writable::{Writable, write_list};
 use convert::level::Level;
 use convert::levels::Levels;
+use mess::mchunk::MChunk;
 use mess::sep::Sep;
-use order::Parts;
 use std::alloc::AllocError;
 use word::Word;
 
-// The digits of a number that may be absent.
+// The digits of a number that may be absent: unlike what an Option writes, nothing where it is.
 fn write_digits(out: &mut Vec<u8>, number: Option<u32>) -> Result<(), AllocError>
-    ensures { OnOk result (out.new.items ≡ out.old.items ++ digits_of number) }
+    ensures { Adds result out.old.items out.new.items (digits_of number) }
 {
     match number {
-        Some(number) => write_number(out, number as usize),
+        Some(number) => number.write(out),
         None => Ok(()),
     }
 }
 
-// The run of an MChunk.
-fn write_run(out: &mut Vec<u8>, run: Word<'_>) -> Result<(), AllocError>
-    ensures { OnOk result (out.new.items ≡ out.old.items ++ word_of run.entry) }
-{
-    write_digits(out, run.front)?;
-    out.extend_from_slice(run.middle)?;
-    write_digits(out, run.back)
+/// The run of an MChunk.
+impl<'a> Writable for Word<'a> {
+    ghost text = { word_of };
+
+    fn write(&self, out: &mut Vec<u8>) -> Result<(), AllocError> {
+        write_digits(out, self.front)?;
+        self.middle.write(out)?;
+        write_digits(out, self.back)
+    }
 }
 
-fn write_mchunk(out: &mut Vec<u8>, chunk: MChunk<'_>) -> Result<(), AllocError>
-    ensures { OnOk result (out.new.items ≡ out.old.items ++ mchunk_text (says chunk.entry)) }
-{
-    match chunk {
-        MChunk::Digits(number, run) => {
-            out.extend_from_slice(b"D:")?;
-            write_number(out, number as usize)?;
-            out.push(b':')?;
-            write_run(out, run)
-        }
-        MChunk::Rev(number, run) => {
-            out.extend_from_slice(b"R:")?;
-            write_number(out, number as usize)?;
-            out.push(b':')?;
-            write_run(out, run)
-        }
-        MChunk::Plain(run) => {
-            out.extend_from_slice(b"P:")?;
-            write_run(out, run)
+impl<'a> Writable for MChunk<Word<'a>> {
+    ghost text = { λ c. mchunk_text (says c) };
+
+    fn write(&self, out: &mut Vec<u8>) -> Result<(), AllocError> {
+        match self {
+            MChunk::Digits(number, run) => {
+                out.extend_from_slice(b"D:")?;
+                number.write(out)?;
+                out.push(b':')?;
+                run.write(out)
+            }
+            MChunk::Rev(number, run) => {
+                out.extend_from_slice(b"R:")?;
+                number.write(out)?;
+                out.push(b':')?;
+                run.write(out)
+            }
+            MChunk::Plain(run) => {
+                out.extend_from_slice(b"P:")?;
+                run.write(out)
+            }
         }
     }
 }
 
-fn write_level(out: &mut Vec<u8>, level: Level<'_>) -> Result<(), AllocError>
-    ensures { OnOk result (out.new.items ≡ out.old.items ++ level_text (level_said level.entry)) }
-{
-    for i in 0..level.len() {
-        write_comma(out, i)?;
-        write_mchunk(out, level.part(i))?;
-    }
-    Ok(())
-}
+/// The MChunks of a level.
+impl<'a> Writable for Level<'a> {
+    ghost text = { λ x. level_text (level_said x) };
 
-fn byte(sep: Sep) -> u8
-    ensures { result ≡ sep_byte sep }
-{
-    match sep {
-        Sep::Colon => b':',
-        Sep::Hyphen => b'-',
-        Sep::Plus => b'+',
-        Sep::Underscore => b'_',
-        Sep::Tilde => b'~',
+    fn write(&self, out: &mut Vec<u8>) -> Result<(), AllocError> {
+        write_list(out, self)
     }
 }
 
-// A further level behind its sign.
-fn write_further(out: &mut Vec<u8>, sep: Sep, level: Level<'_>) -> Result<(), AllocError>
-    ensures { OnOk result (out.new.items ≡ out.old.items ++ further_text (sep, level_said level.entry)) }
-{
-    out.push(b';')?;
-    out.push(byte(sep))?;
-    out.push(b';')?;
-    write_level(out, level)?;
-    Ok(())
+/// A further level behind its sign.
+impl<'a> Writable for (Sep, Level<'a>) {
+    ghost text = { λ x. further_text (signed_said x) };
+
+    fn write(&self, out: &mut Vec<u8>) -> Result<(), AllocError> {
+        out.push(b';')?;
+        out.push(u8::from(self.0))?;
+        out.push(b';')?;
+        self.1.write(out)
+    }
 }
 
 // The levels behind the first.
 fn write_levels(out: &mut Vec<u8>, complex: Levels<'_>) -> Result<(), AllocError>
-    ensures { OnOk result (out.new.items ≡ out.old.items ++ flat_map further_text (mess_said complex.entry).further) }
+    ensures { Adds result out.old.items out.new.items (flat_map further_text (mess_said complex.entry).further) }
 {
-    for i in 0..complex.further() {
-        let Some((sep, level)) = complex.level(i) else {
-            return Ok(());
-        };
-        write_further(out, sep, level)?;
+    for level in (0..complex.further()).map_while(|i| complex.level(i)) {
+        level.write(out)?;
     }
     Ok(())
 }
 
-pub(crate) fn write_complex(out: &mut Vec<u8>, complex: Levels<'_>) -> Result<(), AllocError>
-    ensures { OnOk result (out.new.items ≡ out.old.items ++ complex_text (mess_said complex.entry)) }
-{
-    out.extend_from_slice(b"mess;")?;
-    write_level(out, complex.first())?;
-    write_levels(out, complex)?;
-    Ok(())
+impl<'a> Writable for Levels<'a> {
+    ghost text = { λ x. complex_text (mess_said x) };
+
+    fn write(&self, out: &mut Vec<u8>) -> Result<(), AllocError> {
+        out.extend_from_slice(b"mess;")?;
+        self.first().write(out)?;
+        write_levels(out, *self)
+    }
 }

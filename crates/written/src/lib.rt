@@ -7,3 +7,6 @@ mod generals;
 mod ideal;
 pub mod number;
 pub mod parts;
+#[cfg(test)]
+mod tests;
+pub mod writable;

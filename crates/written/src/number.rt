@@ -1,15 +1,22 @@
 //! Writing numbers.
-ghost use Rattle.std.specs.Prelude.{◌≡◌, ◌++◌, decimal, OnOk};
+ghost use Rattle.std.specs.Prelude.{decimal};
+ghost use Rattle.written.specs.Written.{Adds};
 
+use crate::writable::Writable;
+use itoa::Buffer;
 use std::alloc::AllocError;
 
 /// Adds a number in decimal.
 pub fn write_number(out: &mut Vec<u8>, n: usize) -> Result<(), AllocError>
-    ensures { OnOk result (out.new.items ≡ out.old.items ++ decimal n) }
+    ensures { Adds result out.old.items out.new.items (decimal n) }
 {
-    if n >= 10 {
-        write_number(out, n / 10)?;
+    out.extend_from_slice(Buffer::new().format(n).as_bytes())
+}
+
+impl Writable for u32 {
+    ghost text = { λ n. decimal n };
+
+    fn write(&self, out: &mut Vec<u8>) -> Result<(), AllocError> {
+        write_number(out, *self as usize)
     }
-    out.push(b'0' + (n % 10) as u8)?;
-    Ok(())
 }

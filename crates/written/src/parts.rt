@@ -1,11 +1,8 @@
 //! Writing the parts of a label.
-ghost use Rattle.std.specs.Prelude.{◌≡◌, ◌++◌, OnOk};
 ghost use Rattle.versioning.specs.Labels.{parts_in};
-ghost use Rattle.written.specs.Written.{parts_text};
+ghost use Rattle.written.specs.Written.{Adds, parts_text};
 
-use crate::complexes::write_complex;
-use crate::generals::write_general;
-use crate::ideal::write_ideal;
+use crate::writable::Writable;
 use complex::views::MessIn;
 use convert::levels::Levels;
 use general::general::VersionIn;
@@ -19,11 +16,11 @@ pub fn write_parts<'a>(
     text: &'a [u8],
     label: &'a Versioning,
 ) -> Result<(), AllocError>
-    ensures { OnOk result (out.new.items ≡ out.old.items ++ parts_text (parts_in text.now label.now)) }
+    ensures { Adds result out.old.items out.new.items (parts_text (parts_in text.now label.now)) }
 {
     match label {
-        Versioning::Ideal(semver) => write_ideal(out, IdealIn { text, semver }),
-        Versioning::General(version) => write_general(out, VersionIn { text, version }),
-        Versioning::Complex(mess) => write_complex(out, Levels::Complex(MessIn::new(text, mess))),
+        Versioning::Ideal(semver) => IdealIn { text, semver }.write(out),
+        Versioning::General(version) => VersionIn { text, version }.write(out),
+        Versioning::Complex(mess) => Levels::Complex(MessIn::new(text, mess)).write(out),
     }
 }

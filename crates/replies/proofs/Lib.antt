@@ -1,3 +1,0 @@
-pub mod Chunks
-pub mod Numbers
-pub mod Texts
