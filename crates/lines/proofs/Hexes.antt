@@ -1,24 +1,29 @@
 -- The loop over the digits of a hex text.
-use Rattle.std.proofs.Common.{◌≡◌, ℕ, ◌+◌, ◌*◌, ◌/◌, ◌%◌, ◌<◌, ◌≤◌, true, false, List, [], ◌∷◌, ◌++◌, length, get_or, take, drop, set, Some, None, Option, sym, refl, ap, ◌∙◌, ⊎_elim, append_assoc, append-nil, arith, length-append}
-use Rattle.std.proofs.lemmas.List.{drop_more, take_more_set, drop-set-lt, drop-drop, length-take-le, nil_from_length}
-use Rattle.std.proofs.lemmas.Bool.{eq-eqb, cases_Bool, and_left, and_from, cond-true, cond-false}
-use Rattle.lines.specs.Bytes.{every}
+use Rattle.std.proofs.Common.{◌≡◌, ℕ, zero, suc, ◌+◌, ◌*◌, ◌/◌, ◌%◌, ◌<◌, ◌≤◌, true, false, List, [], ◌∷◌, ◌++◌, ◌&&◌, eqb, length, get_or, take, drop, set, Bool, MatchOption, Some, None, Option, subst, sym, refl, ap, ◌∙◌, ⊎_elim, append_assoc, append-nil, arith, length-append}
+use Rattle.std.proofs.lemmas.List.{get_or-take, get_or-drop, drop_more, take_more_set, drop-set-lt, drop-drop, length-take-le, nil_from_length}
+use Rattle.std.proofs.lemmas.Bool.{cases_Bool, and_left, cond-true, cond-false}
+use Rattle.std.specs.Bool.{then_some}
+use Rattle.std.specs.Simd.{first_chunks}
+use Rattle.std.specs.List.{list_all}
 use Rattle.lines.specs.Hex.{hex_digit, digit_worth, paired, hyphen, unhexed, Long}
-use Rattle.lines.proofs.Everys.{each}
+use Rattle.std.proofs.lemmas.List.Elements.{All-get_or}
+use Rattle.std.proofs.lemmas.List.Sums.{AllPass-from_list_all}
 
 length_paired : (hex : List ℕ) → length (paired hex) ≡ length hex / 2
 length_paired [] = refl
 length_paired (h ∷ []) = refl
 length_paired (h ∷ l ∷ bs) = omega (arith, length_paired bs)
 
-pub pairs : (hex : List ℕ) → false ≡ hyphen hex → length hex % 2 ≡ 0 → true ≡ every hex_digit hex → Long hex (length hex / 2)
-pairs hex ne e d = (cond-false _ _ _ (sym ne) ∙ cond-true _ _ _ (and_from _ _ (sym d) (eq-eqb _ _ e)), length_paired hex)
+-- a text other than a hyphen writes pairs of digits, or nothing
+pub decided : (hex : List ℕ) (t : Bool) {r : Option ℕ} → false ≡ hyphen hex → t ≡ (list_all hex_digit hex && eqb (length hex % 2) 0) → r ≡ then_some t (length hex / 2) → MatchOption r (unhexed hex ≡ None) (Long hex)
+decided hex true ne t e = subst (λ r. MatchOption r (unhexed hex ≡ None) (Long hex)) (sym e) (cond-false _ _ _ (sym ne) ∙ cond-true _ _ _ (sym t), length_paired hex)
+decided hex false ne t e = subst (λ r. MatchOption r (unhexed hex ≡ None) (Long hex)) (sym e) (cond-false _ _ _ (sym ne) ∙ cond-false _ _ _ (sym t))
 
 -- where a byte is written, its digits are digits
-digits : (hex : List ℕ) → unhexed hex ≡ Some (paired hex) → 0 < length (paired hex) → every hex_digit hex ≡ true
+digits : (hex : List ℕ) → unhexed hex ≡ Some (paired hex) → 0 < length (paired hex) → list_all hex_digit hex ≡ true
 digits [] e h = absurd (omega arith)
 digits (b ∷ []) e h = absurd (omega arith)
-digits (b ∷ c ∷ bs) e h = ⊎_elim (λ y. y) (λ n. absurd (never _ (cond-false _ _ _ (and_left _ _ n)) e)) (cases_Bool (every hex_digit (b ∷ c ∷ bs)))
+digits (b ∷ c ∷ bs) e h = ⊎_elim (λ y. y) (λ n. absurd (never _ (cond-false _ _ _ (and_left _ _ n)) e)) (cases_Bool (list_all hex_digit (b ∷ c ∷ bs)))
   where
     never : (o : Option (List ℕ)) {bs : List ℕ} → o ≡ None → o ≡ Some bs → ⊥
     never o p q = let z : ◌≡◌ {A = ℕ} 0 1 = cc in omega arith
@@ -26,7 +31,28 @@ digits (b ∷ c ∷ bs) e h = ⊎_elim (λ y. y) (λ n. absurd (never _ (cond-fa
 pub digit : (hex : List ℕ) {n : ℕ} → Long hex n → (k : ℕ) → k < 2 * n → (k < length hex) × (hex_digit (get_or hex k 0) ≡ true)
 digit hex (e, l) k h =
     let w : k < length hex = omega (arith, length_paired hex) in
-    (w, each hex_digit hex k (digits hex e (omega arith)) w)
+    (w, All-get_or (λ b. hex_digit b ≡ true) hex k 0 w (AllPass-from_list_all hex_digit hex (digits hex e (omega arith))))
+
+-- a digit by its pair
+row : (k : ℕ) (hex : List ℕ) (i j : ℕ) (d : List ℕ) → i < k → j < 2 → get_or (get_or (first_chunks 2 k hex) i d) j 0 ≡ get_or hex (2 * i + j) 0
+row zero hex i j d h l = absurd (omega arith)
+row (suc k) hex zero j d h l = get_or-take 2 hex j 0 l ∙ ap (λ m. get_or hex m 0) (omega arith)
+row (suc k) hex (suc i) j d h l =
+    let n : 2 + (2 * i + j) ≡ 2 * (suc i) + j = omega arith in
+    row k (drop 2 hex) i j d (omega arith) l ∙ get_or-drop 2 hex (2 * i + j) 0 ∙ ap (λ m. get_or hex m 0) n
+
+module _ (hex : List ℕ) (n : ℕ) {rows : List (List ℕ)} (e : Long hex n) (r : rows ≡ first_chunks 2 (length hex / 2) hex) (l : length rows ≡ length hex / 2) where
+  pub all_rows : length rows ≡ n
+  all_rows = omega (arith, l, length_paired hex, e.1)
+
+  pub in_row : (i j : ℕ) (d : List ℕ) → i < length rows → j < 2 → get_or (get_or rows i d) j 0 ≡ get_or hex (2 * i + j) 0
+  in_row i j d h k = rw r (row (length hex / 2) hex i j d (omega (arith, l)) k)
+
+  pub high_in_row : (i : ℕ) (d : List ℕ) → i < length rows → get_or (get_or rows i d) 0 0 ≡ get_or hex (2 * i) 0
+  high_in_row i d h = in_row i 0 d h (omega arith) ∙ ap (λ k. get_or hex k 0) (omega arith)
+
+  pub digit_in_row : (i j : ℕ) (d : List ℕ) → i < length rows → j < 2 → hex_digit (get_or (get_or rows i d) j 0) ≡ true
+  digit_in_row i j d h k = rw (in_row i j d h k) (digit hex e (2 * i + j) (omega (arith, all_rows))).1
 
 -- the bytes before i are written
 pub record Writing (hex was now : List ℕ) (i : ℕ) : Type 0 where

@@ -1,4 +1,3 @@
-pub mod Everys
 pub mod Hexes
 pub mod Numbers
 pub mod Shows

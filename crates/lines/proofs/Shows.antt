@@ -1,10 +1,10 @@
 -- What is added for each byte of a text that is shown.
-use Rattle.std.proofs.Common.{◌≡◌, ℕ, ◌+◌, ◌/◌, ◌%◌, ◌<◌, ◌≤◌, min, true, false, ltb, List, [], ◌∷◌, ◌++◌, length, get_or, take, sym, refl, ap, ◌∙◌, ⊎_elim, append_assoc, arith, length-append}
+use Rattle.std.proofs.Common.{◌≡◌, ℕ, ◌+◌, ◌/◌, ◌%◌, ◌<◌, ◌≤◌, min, false, ltb, List, [], ◌∷◌, ◌++◌, length, get_or, take, sym, refl, ap, ◌∙◌, ⊎_elim, append_assoc, arith, length-append}
 use lib.Utf8.{encode}
 use Rattle.std.proofs.lemmas.List.{flat_map_more, take_more, take_all}
-use Rattle.std.proofs.lemmas.Bool.{cond_both, cond-true, cond-false, cases_lt}
+use Rattle.std.proofs.lemmas.Bool.{cond_both, cond-false, cases_lt}
 use Rattle.lines.specs.Hex.{upper_digit}
-use Rattle.lines.specs.Shown.{printable, shown_byte, shown_of, column_of}
+use Rattle.lines.specs.Shown.{printable, shown_byte, shown_of}
 
 -- an ASCII character is one byte
 abbrev pub Ascii : ℕ → Type 0
@@ -30,20 +30,15 @@ module _ (text s now : List ℕ) (i : ℕ) (p : now ≡ s ++ shown_of (take i te
   pub all : length text ≤ i → now ≡ s ++ shown_of text
   all h = p ∙ ap (λ t. s ++ shown_of t) (take_all i text h)
 
--- how many characters the byte at i adds
-module _ (text : List ℕ) (i : ℕ) (h : i < length text) where
-  adds : (w : List ℕ) → shown_byte (get_or text i 0) ≡ w → length (shown_of (take (i + 1) text)) ≡ length (shown_of (take i text)) + length w
-  adds w e = ap length (ap shown_of (take_more text i 0 h) ∙ sym (flat_map_more shown_byte [] (take i text) (get_or text i 0))) ∙ rw (e, length-append) refl
+-- how many characters some bytes are shown as, up to the most that 64 bits count
+abbrev pub Wide : List ℕ → ℕ → Type 0
+Wide text n = n ≡ min (length (shown_of text)) 18446744073709551615
 
-  pub one : true ≡ printable (get_or text i 0) → length (shown_of (take (i + 1) text)) ≡ length (shown_of (take i text)) + 1
-  one e = adds _ (cond-true _ _ _ (sym e))
-
-  pub four : false ≡ printable (get_or text i 0) → length (shown_of (take (i + 1) text)) ≡ length (shown_of (take i text)) + 4
-  four e = adds _ (cond-false _ _ _ (sym e))
+pub wider : (text : List ℕ) (b n m w : ℕ) → Wide text n → w ≡ length (shown_byte b) → m ≡ min (n + w) 18446744073709551615 → Wide (text ++ b ∷ []) m
+wider text b n m w h e f =
+    let s : length (shown_of (text ++ b ∷ [])) ≡ length (shown_of text) + length (shown_byte b) = ap length (sym (flat_map_more shown_byte [] text b)) ∙ length-append (shown_of text) (shown_byte b) in
+    omega (arith, h, e, f, s)
 
 -- a place past the end counts as the end
-pub clipped : (text : List ℕ) (place i : ℕ) → i ≡ min place (length text) → column_of text i ≡ column_of text place
-clipped text place i e = ⊎_elim (λ h. ap (column_of text) (omega arith)) (λ h. ap seen (take_all i text (omega arith) ∙ sym (take_all place text h))) (cases_lt place (length text))
-  where
-    seen : List ℕ → ℕ
-    seen t = min (length (shown_of t)) 18446744073709551615
+pub clipped : (text : List ℕ) (place : ℕ) → take (min place (length text)) text ≡ take place text
+clipped text place = ⊎_elim (λ h. ap (λ n. take n text) (omega arith)) (λ h. take_all _ text (omega arith) ∙ sym (take_all place text h)) (cases_lt place (length text))

@@ -1,7 +1,7 @@
 -- Bytes written in hex. Assumes nothing.
 use Rattle.std.specs.Prelude.{◌≡◌, ℕ, ◌+◌, ◌-◌, ◌*◌, ◌%◌, ◌<◌, ◌≤◌, Bool, false, cond, ◌&&◌, ◌||◌, List, [], ◌∷◌, length, take, drop, Some, None, Option, ◌==◌, nat_le, nat_lt}
 use Rattle.std.specs.Int.{is_in_range}
-use Rattle.lines.specs.Bytes.{every}
+use Rattle.std.specs.List.{list_all}
 
 -- the upper-case digit for a number below 16
 abbrev pub upper_digit : ℕ → ℕ
@@ -28,7 +28,7 @@ hyphen (b ∷ c ∷ bs) = false
 
 -- the text that a field writes: nothing for a hyphen, or else pairs of digits
 abbrev pub unhexed : List ℕ → Option (List ℕ)
-unhexed hex = cond (hyphen hex) (Some []) (cond (every hex_digit hex && length hex % 2 == 0) (Some (paired hex)) None)
+unhexed hex = cond (hyphen hex) (Some []) (cond (list_all hex_digit hex && length hex % 2 == 0) (Some (paired hex)) None)
 
 -- a field writes a text of n bytes
 abbrev pub Long : List ℕ → ℕ → Type 0

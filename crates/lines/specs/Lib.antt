@@ -1,5 +1,5 @@
-pub mod Bytes
 pub mod Hex
+pub mod Line
 pub mod Number
 pub mod Shown
 pub mod Split

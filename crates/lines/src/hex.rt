@@ -1,5 +1,5 @@
 ghost use Rattle.std.specs.Prelude.{◌≡◌, ◌/◌, ◌%◌, ◌<◌, ◌≤◌, true, length, take, drop, None, MatchOption};
-ghost use Rattle.lines.specs.Bytes.{every};
+ghost use Rattle.std.specs.List.{list_all};
 ghost use Rattle.lines.specs.Hex.{upper_digit, hex_digit, digit_worth, hyphen, paired, unhexed, Long, Unhexes};
 
 // The upper-case digit for a number below 16.
@@ -17,6 +17,7 @@ pub fn hex_byte(byte: u8) -> (u8, u8)
     (upper_digit(byte / 16), upper_digit(byte % 16))
 }
 
+// The library `hex` takes digits of both cases, and a field has lower-case ones alone, which would still be tested here.
 fn is_digit(b: u8) -> bool
     ensures { result ≡ hex_digit b }
 {
@@ -33,14 +34,9 @@ fn digit_worth(b: u8) -> u8
 }
 
 fn all_digits(hex: &[u8]) -> bool
-    ensures { result ≡ every hex_digit hex.now }
+    ensures { result ≡ list_all hex_digit hex.now }
 {
-    for b in hex {
-        if !is_digit(*b) {
-            return false;
-        }
-    }
-    true
+    hex.iter().all(|b| is_digit(*b))
 }
 
 fn is_hyphen(hex: &[u8]) -> bool
@@ -56,14 +52,7 @@ fn unhexed_len(hex: &[u8]) -> Option<usize>
     if is_hyphen(hex) {
         return Some(0);
     }
-    if hex.len() % 2 != 0 {
-        return None;
-    }
-    if all_digits(hex) {
-        Some(hex.len() / 2)
-    } else {
-        None
-    }
+    (hex.len() % 2 == 0 && all_digits(hex)).then_some(hex.len() / 2)
 }
 
 // Writes the bytes of a text of that length in front of `out`.
@@ -73,8 +62,8 @@ fn write_pairs(hex: &[u8], out: &mut [u8], count: usize)
     ensures front { take count out.new ≡ paired hex.now }
     ensures rest { drop count out.new ≡ drop count out.old }
 {
-    for i in 0..count {
-        out[i] = digit_worth(hex[2 * i]) * 16 + digit_worth(hex[2 * i + 1]);
+    for (i, [high, low]) in hex.as_chunks::<2>().0.iter().enumerate() {
+        out[i] = digit_worth(*high) * 16 + digit_worth(*low);
     }
 }
 
@@ -82,9 +71,7 @@ fn write_pairs(hex: &[u8], out: &mut [u8], count: usize)
 pub fn unhex(hex: &[u8], out: &mut [u8]) -> Option<usize>
     ensures { Unhexes hex.now out.old result out.new }
 {
-    let Some(count) = unhexed_len(hex) else {
-        return None;
-    };
+    let count = unhexed_len(hex)?;
     if count > out.len() {
         return None;
     }

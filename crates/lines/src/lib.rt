@@ -2,6 +2,7 @@
 #![tactic(auto)]
 
 pub mod hex;
+pub mod line;
 pub mod number;
 pub mod shown;
 pub mod split;

@@ -1,4 +1,4 @@
-ghost use Rattle.std.specs.Prelude.{◌≡◌, ◌+◌, ◌<◌, ◌++◌, length, take, IfOk, string_bytes, OnOk};
+ghost use Rattle.std.specs.Prelude.{◌≡◌, ◌++◌, length, IfOk, string_bytes, OnOk};
 ghost use Rattle.lines.specs.Shown.{printable, shown_byte, shown_of, column_of};
 
 use crate::hex::hex_byte;
@@ -7,7 +7,7 @@ use std::alloc::{AllocError, Global};
 fn is_printable(byte: u8) -> bool
     ensures { result ≡ printable byte }
 {
-    byte >= 33 && byte <= 126
+    byte.is_ascii_graphic()
 }
 
 // Adds a byte as it is shown.
@@ -43,12 +43,11 @@ pub fn shown(heap: Global, text: &[u8]) -> Result<String, AllocError>
     Ok(all)
 }
 
-// How many characters the byte at `i` is shown as.
-fn width_at(text: &[u8], i: usize) -> usize
-    requires { i < length text.now }
-    ensures adds { length (shown_of (take (i + 1) text.now)) ≡ length (shown_of (take i text.now)) + result }
+// How many characters a byte is shown as.
+fn width(byte: u8) -> usize
+    ensures { result ≡ length (shown_byte byte) }
 {
-    if is_printable(text[i]) { 1 } else { 4 }
+    if is_printable(byte) { 1 } else { 4 }
 }
 
 /// How many characters are shown before the byte at `place`, or in all where the text is no longer:
@@ -56,9 +55,7 @@ fn width_at(text: &[u8], i: usize) -> usize
 pub fn column(text: &[u8], place: usize) -> usize
     ensures { result ≡ column_of text.now place }
 {
-    let mut count: usize = 0;
-    for i in 0..place.min(text.len()) {
-        count = count.saturating_add(width_at(text, i));
-    }
-    count
+    text[..place.min(text.len())]
+        .iter()
+        .fold(0, |count: usize, b| count.saturating_add(width(*b)))
 }

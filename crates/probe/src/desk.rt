@@ -1,5 +1,5 @@
 //! What answers lines, and keeps replies until many can be written at once.
-use replies::replying::{pass_over, reply};
+use replies::replying::{Rooms, pass_over, reply};
 use std::alloc::{AllocError, Global};
 use std::io;
 use std::io::Write;
@@ -29,12 +29,11 @@ impl Desk {
 
     /// Answers a line.
     pub fn answer(&mut self, line: &[u8], output: &mut Stdout) -> io::Result<()> {
-        reply(
-            &mut self.out,
-            line,
-            self.one.as_mut_slice(),
-            self.other.as_mut_slice(),
-        )?;
+        let rooms = Rooms {
+            one: self.one.as_mut_slice(),
+            other: self.other.as_mut_slice(),
+        };
+        reply(&mut self.out, line, rooms)?;
         self.flush_full(output)
     }
 

@@ -15,18 +15,15 @@ use std::rt::{Stdin, Stdout};
 
 const BLOCK: usize = 65536;
 
-// One read, made again where a signal interrupts it; 0 at the end of the input.
+// One read, made again where a signal interrupts it; 0 at the end of the input. Every loop is proved to end, so reads
+// are counted.
 fn read_block(input: &mut Stdin, block: &mut [u8]) -> io::Result<usize>
     ensures { ReadsAtMost result block.new }
 {
     for _ in 0..u64::MAX {
         match input.read(block) {
-            Ok(count) => return Ok(count),
-            Err(e) => {
-                if e.kind() != ErrorKind::Interrupted {
-                    return Err(e);
-                }
-            }
+            Err(e) if e.kind() == ErrorKind::Interrupted => {}
+            done => return done,
         }
     }
     Ok(0)

@@ -10,7 +10,9 @@ use Rattle.ideals.specs.Labels.{parts_in}
 use Rattle.protocol.specs.declared.asked.Form.{Form}
 use Rattle.protocol.specs.declared.asked.Form.TheVariants.{SemVer}
 use Rattle.protocol.specs.declared.answer.Answer.{Answer}
-use Rattle.protocol.specs.declared.answer.Answer.TheVariants.{Bad, Refused, Parts, Read, Order}
+use Rattle.protocol.specs.declared.answer.Answer.TheVariants.{Parts, Read, Order}
+use Rattle.protocol.specs.declared.answer.Refusal.{Refusal}
+use Rattle.protocol.specs.declared.answer.Refusal.TheVariants.{Bad, Label}
 
 -- no command, a refusal, the parts of a label, the bytes read with them, or an order
 pub data Said : Type 0 where
@@ -20,13 +22,13 @@ pub data Said : Type 0 where
   read : ℕ → standard.Parts → Said
   order : Ordering → Said
 
--- the parts' places are in the text
-abbrev pub said_in : List ℕ → Answer → Said
-said_in text Bad = bad
-said_in text (Refused fault) = refused fault
-said_in text (Parts semver) = parts (parts_in text semver)
-said_in text (Read count semver) = read count (parts_in text semver)
-said_in text (Order o) = order o
+-- the parts' places are in the text beside them
+abbrev pub said : Result Answer Refusal → Said
+said (Ok (Parts text semver)) = parts (parts_in text.now semver)
+said (Ok (Read count text semver)) = read count (parts_in text.now semver)
+said (Ok (Order o)) = order o
+said (Err Bad) = bad
+said (Err (Label fault)) = refused fault
 
 -- a refusal ends it
 abbrev pub unless_refused : {X : Type 0} → Result X LabelFault → (X → Said) → Said

@@ -1,12 +1,13 @@
 -- What a line of the protocol asks. Assumes nothing.
-use Rattle.std.specs.Prelude.{ℕ, Bool, false, cond, ◌||◌, List, [], ◌∷◌, Some, None, codes, Option, ◌==◌, nat_eq}
+use Rattle.std.specs.Prelude.{ℕ, Bool, false, cond, ◌||◌, List, [], ◌∷◌, Some, None, codes, Ok, Err, Result, Option, ◌==◌, nat_eq}
 use Rattle.std.specs.Str.{bytes_eq}
-use Rattle.lines.specs.Bytes.{every}
+use Rattle.lines.specs.Line.{blank, comment}
 use Rattle.lines.specs.Split.{word_of, rest_of}
 use Rattle.protocol.specs.declared.asked.Form.{Form}
 use Rattle.protocol.specs.declared.asked.Form.TheVariants.{SemVer}
 use Rattle.protocol.specs.declared.asked.Command.{Command}
-use Rattle.protocol.specs.declared.asked.Command.TheVariants.{Silent, Bad, New, Parse, Compare}
+use Rattle.protocol.specs.declared.asked.Command.TheVariants.{New, Parse, Compare}
+use Rattle.protocol.specs.declared.asked.BadCommand.{BadCommand}
 
 -- a command with its fields: nothing is asked, nothing that is known, or one of the commands
 pub data Asked : Type 0 where
@@ -16,21 +17,16 @@ pub data Asked : Type 0 where
   parse : Form → List ℕ → Asked
   compare : Form → List ℕ → List ℕ → Asked
 
-abbrev pub asked : Command → Asked
-asked Silent = silent
-asked Bad = bad
-asked (New form hex) = new form hex.now
-asked (Parse form hex) = parse form hex.now
-asked (Compare form first second) = compare form first.now second.now
+-- a command, or none that is known
+abbrev pub found : Result Command BadCommand → Asked
+found (Ok (New form hex)) = new form hex.now
+found (Ok (Parse form hex)) = parse form hex.now
+found (Ok (Compare form first second)) = compare form first.now second.now
+found (Err e) = bad
 
--- only blanks, or nothing
-abbrev pub blank : List ℕ → Bool
-blank line = every (λ b. nat_eq b 32) line
-
--- a line that begins with #
-abbrev pub comment : List ℕ → Bool
-comment [] = false
-comment (b ∷ bs) = b == 35
+abbrev pub asked : Option (Result Command BadCommand) → Asked
+asked None = silent
+asked (Some r) = found r
 
 abbrev pub form_of : List ℕ → Option Form
 form_of word = cond (bytes_eq word (codes "semver")) (Some SemVer) None

@@ -9,11 +9,11 @@ pub enum Form {
 /// What a line asks, with its texts as they stand in the line.
 #[derive(Clone, Copy)]
 pub enum Command<'a> {
-    /// A line that gets no answer.
-    Silent,
-    /// No command that is known.
-    Bad,
     New(Form, &'a [u8]),
     Parse(Form, &'a [u8]),
     Compare(Form, &'a [u8], &'a [u8]),
 }
+
+/// A line asks no command that is known.
+#[derive(Clone, Copy)]
+pub struct BadCommand;

@@ -1,103 +1,47 @@
 //! Reading a line.
-ghost use Rattle.std.specs.Prelude.{◌≡◌};
-ghost use Rattle.std.specs.Str.{bytes_eq};
-ghost use Rattle.protocol.specs.Commands.{asked, blank, comment, form_of, new_of, parse_of, compare_of, known_of, command_of};
+ghost use Rattle.std.specs.Prelude.{◌≡◌, Some, None, MatchResult};
+ghost use Rattle.protocol.specs.Commands.{asked, found, form_of, known_of, command_of};
 
-use crate::asked::{Command, Form};
+use crate::asked::{BadCommand, Command, Form};
+use lines::line::{is_blank, is_comment};
 use lines::split::split_blank;
 
-// Whether a line has only blanks, or nothing.
-fn is_blank(line: &[u8]) -> bool
-    ensures { result ≡ blank line.now }
+fn form_named(name: &[u8]) -> Result<Form, BadCommand>
+    ensures { MatchResult result (λ form. form_of name.now ≡ Some form) (λ _. form_of name.now ≡ None) }
 {
-    for b in line {
-        if *b != b' ' {
-            return false;
-        }
-    }
-    true
-}
-
-/// Whether a line is a comment.
-pub fn is_comment(line: &[u8]) -> bool
-    ensures { result ≡ comment line.now }
-{
-    matches!(line, [b'#', ..])
-}
-
-// Whether two texts are the same.
-fn is(word: &[u8], name: &[u8]) -> bool
-    ensures { result ≡ bytes_eq word.now name.now }
-{
-    word == name
-}
-
-fn form_named(name: &[u8]) -> Option<Form>
-    ensures { result ≡ form_of name.now }
-{
-    if is(name, b"semver") {
-        Some(Form::SemVer)
+    // A `match` on the word is no shorter, and its arm needs a proof letter by letter.
+    if name == b"semver".as_slice() {
+        Ok(Form::SemVer)
     } else {
-        None
+        Err(BadCommand)
     }
 }
 
-// `new FORM T`
-fn new(fields: &[u8]) -> Command<'_>
-    ensures { asked result ≡ new_of fields.now }
-{
-    let (name, text) = split_blank(fields);
-    match form_named(name) {
-        Some(form) => Command::New(form, text),
-        None => Command::Bad,
-    }
-}
-
-// `parse FORM T`
-fn parse(fields: &[u8]) -> Command<'_>
-    ensures { asked result ≡ parse_of fields.now }
-{
-    let (name, text) = split_blank(fields);
-    match form_named(name) {
-        Some(form) => Command::Parse(form, text),
-        None => Command::Bad,
-    }
-}
-
-// `cmpf FORM T1 T2`
-fn compare(fields: &[u8]) -> Command<'_>
-    ensures { asked result ≡ compare_of fields.now }
+// The command that a first word names, with what stands behind it: `new FORM T`, `parse FORM T` or `cmpf FORM T1 T2`.
+fn known<'a>(word: &[u8], fields: &'a [u8]) -> Result<Command<'a>, BadCommand>
+    ensures { found result ≡ known_of word.now fields.now }
 {
     let (name, texts) = split_blank(fields);
-    let (first, second) = split_blank(texts);
-    match form_named(name) {
-        Some(form) => Command::Compare(form, first, second),
-        None => Command::Bad,
-    }
-}
-
-// The command that a first word names, with what stands behind it.
-fn known<'a>(word: &[u8], fields: &'a [u8]) -> Command<'a>
-    ensures { asked result ≡ known_of word.now fields.now }
-{
-    if is(word, b"new") {
-        new(fields)
-    } else if is(word, b"parse") {
-        parse(fields)
-    } else if is(word, b"cmpf") {
-        compare(fields)
+    let form = form_named(name)?;
+    if word == b"new".as_slice() {
+        Ok(Command::New(form, texts))
+    } else if word == b"parse".as_slice() {
+        Ok(Command::Parse(form, texts))
+    } else if word == b"cmpf".as_slice() {
+        let (first, second) = split_blank(texts);
+        Ok(Command::Compare(form, first, second))
     } else {
-        Command::Bad
+        Err(BadCommand)
     }
 }
 
-/// What a line asks. Nothing behind the last blank, or no blank there, is a field that is empty.
-pub fn command(line: &[u8]) -> Command<'_>
+/// What a line asks, if it gets an answer. Nothing behind the last blank, or no blank there, is a field that is empty.
+pub fn command(line: &[u8]) -> Option<Result<Command<'_>, BadCommand>>
     ensures { asked result ≡ command_of line.now }
 {
     if is_blank(line) || is_comment(line) {
-        return Command::Silent;
+        return None;
     }
     let (word, fields) = split_blank(line);
-    known(word, fields)
+    Some(known(word, fields))
 }
