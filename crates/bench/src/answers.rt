@@ -2,25 +2,23 @@
 use crate::refusal::refuse;
 use crate::words::plain;
 use chunk::chunk::Chunk;
-use chunk::release::ReleaseIn;
+use chunk::chunks::ChunksIn;
 use ideals::ideal::IdealIn;
 use ideals::semver::SemVer;
 use job::against::{Verdict, against};
 use job::command::{Command, without_return};
 use lines::shown::shown;
-use order::Parts;
 use std::io;
 
 /// Prints a line, and below it what came of it. Blank lines are passed over.
 pub fn answer(rt: &HostRuntime, line: &[u8]) -> io::Result<()> {
     let line = without_return(line);
-    let command = Command::new(line);
-    if let Command::Blank = command {
+    let Some(command) = Command::new(line) else {
         return Ok(());
-    }
+    };
     rt.println(plain(rt.alloc(), line)?)?;
     match command {
-        Command::Blank | Command::Comment => Ok(()),
+        Command::Comment => Ok(()),
         Command::Label(text) => label(rt, text),
         Command::Against(first, second) => compared(rt, first, second),
         Command::Unknown => println!(rt; "  unknown command; the line is passed over"),
@@ -56,10 +54,10 @@ fn parts(rt: &HostRuntime, label: &IdealIn<'_>) -> io::Result<()> {
     }
 }
 
-fn identifiers(rt: &HostRuntime, release: &ReleaseIn<'_>) -> io::Result<()> {
+fn identifiers(rt: &HostRuntime, release: &ChunksIn<'_>) -> io::Result<()> {
     println!(rt; "  Release:")?;
-    for i in 0..release.len() {
-        match release.part(i).0 {
+    for chunk in release.chunks.as_slice() {
+        match chunk.in_text(release.text) {
             Chunk::Numeric(number) => println!(rt; "    number {number}")?,
             Chunk::Alphanum(text) => println!(rt; "    text {}", shown(rt.alloc(), text)?)?,
         }

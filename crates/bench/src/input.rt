@@ -19,19 +19,16 @@ pub fn run(rt: &HostRuntime) -> io::Result<()> {
 }
 
 fn from_input(rt: &HostRuntime) -> io::Result<()> {
-    let lines = do_lines(rt, BufReader::new(rt.alloc(), rt.stdin())?)?;
-    if lines == 0 {
-        println!(rt; "{USAGE}")?;
+    let mut reader = BufReader::new(rt.alloc(), rt.stdin())?;
+    if reader.fill_buf()?.is_empty() {
+        return println!(rt; "{USAGE}");
     }
-    Ok(())
+    do_lines(rt, reader)
 }
 
 fn from_file(rt: &HostRuntime, path: &str) -> io::Result<()> {
     match fs::open(rt, path) {
-        Ok(file) => {
-            let _lines = do_lines(rt, BufReader::new(rt.alloc(), file)?)?;
-            Ok(())
-        }
+        Ok(file) => do_lines(rt, BufReader::new(rt.alloc(), file)?),
         Err(e) => {
             eprintln!(rt; "bench: the job {path} cannot be opened")?;
             Err(e)
@@ -39,13 +36,10 @@ fn from_file(rt: &HostRuntime, path: &str) -> io::Result<()> {
     }
 }
 
-/// Does a job line by line, and says how many lines there were.
-fn do_lines<R: BufRead + Drop>(rt: &HostRuntime, reader: R) -> io::Result<u64> {
-    let mut count: u64 = 0;
+/// Does a job line by line.
+fn do_lines<R: BufRead + Drop>(rt: &HostRuntime, reader: R) -> io::Result<()> {
     for line in reader.split(rt.alloc(), b'\n') {
-        let line = line?;
-        answer(rt, line.as_slice())?;
-        count = count.saturating_add(1);
+        answer(rt, line?.as_slice())?;
     }
-    Ok(count)
+    Ok(())
 }

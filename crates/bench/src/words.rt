@@ -14,14 +14,11 @@ A line that begins with # is a comment.";
 /// The line as it is shown, but with its blanks.
 pub fn plain(heap: Global, line: &[u8]) -> Result<String, AllocError> {
     let mut all = String::new(heap);
-    let mut from = 0;
-    for (i, b) in line.iter().enumerate() {
-        if *b == b' ' {
-            all.push_str(shown(heap, &line[from..i])?.as_str())?;
+    for (i, word) in line.split(|b| *b == b' ').enumerate() {
+        if i > 0 {
             all.push(' ')?;
-            from = i + 1;
         }
+        all.push_str(shown(heap, word)?.as_str())?;
     }
-    all.push_str(shown(heap, &line[from..])?.as_str())?;
     Ok(all)
 }

@@ -18,10 +18,6 @@ settled p q Less s = s.less.0 refl
 settled p q Equal s = s.equal.0 refl
 settled p q Greater s = s.greater.0 refl
 
--- two texts by what is read of them
-pub both : {r : Result Verdict Refusals} {x y x' y' : Result Parts LabelFault} → x ≡ x' → y ≡ y' → r ≡ against_of x y → r ≡ against_of x' y'
-both e f h = cc
-
 module _ (s t : List ℕ) where
   of_read : (x y : Result Parts LabelFault) → NewReads Ideal s x → NewReads Ideal t y → Judged s t (against_of x y)
   of_read (Ok p') (Ok q') a b p q v i j e =

@@ -1,18 +1,10 @@
 -- What a line of a job asks. Assumes nothing.
-use Rattle.std.specs.Prelude.{ℕ, ◌-◌, Bool, false, cond, List, [], ◌∷◌, length, take, codes, ◌==◌, slice_index}
+use Rattle.std.specs.Prelude.{ℕ, ◌-◌, Some, None, Option, cond, List, length, take, codes, ◌==◌, slice_index}
 use Rattle.std.specs.Str.{bytes_eq}
-use Rattle.lines.specs.Bytes.{every}
+use Rattle.lines.specs.Line.{blank, comment as commented}
 use Rattle.lines.specs.Split.{word_of, rest_of}
 use Rattle.job.specs.declared.command.Command.{Command}
-use Rattle.job.specs.declared.command.Command.TheVariants.{Blank, Comment, Label, Against, Unknown}
-
-abbrev pub blank : ℕ → Bool
-blank b = b == 32
-
--- a number sign in front
-abbrev pub commented : List ℕ → Bool
-commented [] = false
-commented (b ∷ bs) = b == 35
+use Rattle.job.specs.declared.command.Command.TheVariants.{Comment, Label, Against, Unknown}
 
 -- the line without one carriage return at its end
 abbrev pub without_return : List ℕ → List ℕ
@@ -26,12 +18,12 @@ pub data Asked : Type 0 where
   against : List ℕ → List ℕ → Asked
   unknown : Asked
 
-abbrev pub asked : Command → Asked
-asked Blank = nothing
-asked Comment = comment
-asked (Label text) = label text.now
-asked (Against first second) = against first.now second.now
-asked Unknown = unknown
+abbrev pub asked : Option Command → Asked
+asked None = nothing
+asked (Some Comment) = comment
+asked (Some (Label text)) = label text.now
+asked (Some (Against first second)) = against first.now second.now
+asked (Some Unknown) = unknown
 
 -- a command by its name and what stands behind it: the last text goes to the end of the line, an earlier one to the first blank
 abbrev pub named_of : List ℕ → List ℕ → Asked
@@ -41,4 +33,4 @@ named_of word rest =
 
 -- a line of blanks asks nothing, one that begins with a number sign is a comment, and any other begins with a command's name
 abbrev pub command_of : List ℕ → Asked
-command_of line = cond (every blank line) nothing (cond (commented line) comment (named_of (word_of line) (rest_of line)))
+command_of line = cond (blank line) nothing (cond (commented line) comment (named_of (word_of line) (rest_of line)))

@@ -1,10 +1,8 @@
 //! Which of two texts is the later label.
-ghost use Rattle.std.specs.Prelude.{◌≡◌, Err};
+ghost use Rattle.std.specs.Prelude.{◌≡◌};
 ghost use Rattle.parsers.specs.Answers.{new_by};
-ghost use Rattle.standard.specs.Order.{ideal_order};
 ghost use Rattle.standard.specs.Reading.{ideal_of};
-ghost use Rattle.ideals.specs.Views.{parts_of};
-ghost use Rattle.job.specs.Verdicts.{verdict_of, refusals, against_of, Judged};
+ghost use Rattle.job.specs.Verdicts.{verdict_of, against_of, Judged};
 
 use fault::LabelFault;
 use ideals::ideal::IdealIn;
@@ -20,27 +18,23 @@ pub enum Verdict {
 }
 
 /// Why one or both of two texts are no labels.
+// A field for each text, since each refusal is told by itself: an enum of three cases would have both told twice over.
 #[derive(Clone, Copy)]
 pub struct Refusals {
     pub first: Option<LabelFault>,
     pub second: Option<LabelFault>,
 }
 
-/// The later of two Ideals.
-fn later(first: &IdealIn<'_>, second: &IdealIn<'_>) -> Verdict
-    ensures { result ≡ verdict_of (ideal_order (parts_of first.now) (parts_of second.now)) }
-{
-    match first.cmp(second) {
-        Ordering::Less => Verdict::Second,
-        Ordering::Equal => Verdict::Neither,
-        Ordering::Greater => Verdict::First,
-    }
-}
+impl From<Ordering> for Verdict {
+    ghost from_gives = { λ order verdict. verdict ≡ verdict_of order };
 
-fn refused(first: Option<LabelFault>, second: Option<LabelFault>) -> Result<Verdict, Refusals>
-    ensures { result ≡ Err (refusals first second) }
-{
-    Err(Refusals { first, second })
+    fn from(order: Ordering) -> Verdict {
+        match order {
+            Ordering::Less => Verdict::Second,
+            Ordering::Equal => Verdict::Neither,
+            Ordering::Greater => Verdict::First,
+        }
+    }
 }
 
 /// The later of two texts that are Ideals, or the refusal of each that is none.
@@ -58,10 +52,11 @@ pub fn against(first: &[u8], second: &[u8]) -> Result<Verdict, Refusals>
                 text: second,
                 semver: &b,
             };
-            Ok(later(&one, &other))
+            Ok(Verdict::from(one.cmp(&other)))
         }
-        (Ok(_), Err(e)) => refused(None, Some(e)),
-        (Err(d), Ok(_)) => refused(Some(d), None),
-        (Err(d), Err(e)) => refused(Some(d), Some(e)),
+        (a, b) => Err(Refusals {
+            first: a.err(),
+            second: b.err(),
+        }),
     }
 }
