@@ -36,11 +36,7 @@ fn alphanum<Q: Class>(text: Text<'_>, at: usize) -> Option<(Span, usize)>
     ensures { Gives (bytes_in (bytes_of text.entry)) (word_of Q.Class.class) (bytes_of text.entry) at result }
 {
     let (span, end) = stretch::<OrDigit<Q>>(text, at)?;
-    if holds_any::<Q>(span.bytes(text.bytes)) {
-        Some((span, end))
-    } else {
-        None
-    }
+    holds_any::<Q>(span.bytes(text.bytes)).then_some((span, end))
 }
 
 impl Chunk<Span> {

@@ -15,8 +15,7 @@ use parsers::{Alphabetic, separated_list1};
 use texts::table::{Rows, Span};
 use texts::text::Text;
 
-/// The chunks of a General, by their places in its text. A type apart from `Release`, as they are read and compared
-/// otherwise.
+/// The chunks of a General, by their places in its text. Beside `Release`, as in the Rust source: a label has both.
 #[derive(Clone, Copy)]
 pub struct Chunks {
     pub chunks: Rows<Chunk<Span>>,

@@ -18,7 +18,8 @@ pub enum Verdict {
 }
 
 /// Why one or both of two texts are no labels.
-// A field for each text, since each refusal is told by itself: an enum of three cases would have both told twice over.
+// A field for each text, never both None, since each refusal is told by itself: an enum of three cases would have both told
+// twice over.
 #[derive(Clone, Copy)]
 pub struct Refusals {
     pub first: Option<LabelFault>,

@@ -17,7 +17,8 @@ pub fn hex_byte(byte: u8) -> (u8, u8)
     (upper_digit(byte / 16), upper_digit(byte % 16))
 }
 
-// The library `hex` takes digits of both cases, and a field has lower-case ones alone, which would still be tested here.
+// The library `hex` reads digits of both cases, so that each would still be tested here first, and needs a room of just the
+// length that is written.
 fn is_digit(b: u8) -> bool
     ensures { result ≡ hex_digit b }
 {

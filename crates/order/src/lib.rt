@@ -60,6 +60,7 @@ pub fn compare_lists<L: Parts>(a: &L, b: &L) -> Ordering
     L::agrees();
     let m = a.len();
     let n = b.len();
+    // by index, since the lists hand their parts out so: a Word and the levels of a converted label are no slices
     for i in 0..m.min(n) {
         let x = a.part(i);
         let y = b.part(i);

@@ -2,7 +2,6 @@
 use crate::desk::Desk;
 use std::alloc::{AllocError, Global};
 use std::io;
-use std::rt::Stdout;
 
 // The longest line.
 const LONGEST: usize = 300000;
@@ -27,39 +26,34 @@ impl Begun {
     }
 
     // Ends the line.
-    fn end(&mut self, desk: &mut Desk, output: &mut Stdout) -> io::Result<()> {
+    fn end(&mut self, desk: &mut Desk<'_>) -> io::Result<()> {
         if self.bytes.len() > LONGEST {
-            desk.pass_over(self.bytes.as_slice(), output)?;
+            desk.pass_over(self.bytes.as_slice())?;
         } else {
-            desk.answer(self.bytes.as_slice(), output)?;
+            desk.answer(self.bytes.as_slice())?;
         }
         self.bytes.clear();
         Ok(())
     }
 
     /// Ends the input, whose last line may have no newline.
-    pub fn finish(&mut self, desk: &mut Desk, output: &mut Stdout) -> io::Result<()> {
+    pub fn finish(&mut self, desk: &mut Desk<'_>) -> io::Result<()> {
         if self.bytes.is_empty() {
             Ok(())
         } else {
-            self.end(desk, output)
+            self.end(desk)
         }
     }
 }
 
 /// Answers each line that ends in a block, and keeps what is left.
-pub fn take_block(
-    block: &[u8],
-    begun: &mut Begun,
-    desk: &mut Desk,
-    output: &mut Stdout,
-) -> io::Result<()> {
+pub fn take_block(block: &[u8], begun: &mut Begun, desk: &mut Desk<'_>) -> io::Result<()> {
     for part in block.split_inclusive(|b| *b == b'\n') {
         match part.strip_suffix(b"\n") {
-            Some(line) if begun.bytes.is_empty() => desk.answer(line, output)?,
+            Some(line) if begun.bytes.is_empty() => desk.answer(line)?,
             Some(line) => {
                 begun.add(line)?;
-                begun.end(desk, output)?;
+                begun.end(desk)?;
             }
             None => begun.add(part)?,
         }

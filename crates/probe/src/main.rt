@@ -33,17 +33,17 @@ fn read_block(input: &mut Stdin, block: &mut [u8]) -> io::Result<usize>
 fn run(heap: Global, input: &mut Stdin, output: &mut Stdout) -> io::Result<()> {
     let mut block = [0u8; BLOCK];
     let mut begun = Begun::new(heap);
-    let mut desk = Desk::new(heap)?;
+    let mut desk = Desk::new(heap, output)?;
     for _ in 0..u64::MAX {
         let count = read_block(input, &mut block)?;
         if count == 0 {
             break;
         }
-        take_block(&block[..count], &mut begun, &mut desk, output)?;
-        desk.flush(output)?;
+        take_block(&block[..count], &mut begun, &mut desk)?;
+        desk.flush()?;
     }
-    begun.finish(&mut desk, output)?;
-    desk.flush(output)
+    begun.finish(&mut desk)?;
+    desk.flush()
 }
 
 fn main(rt: HostRuntime) -> io::Result<()> {
