@@ -1,6 +1,5 @@
 -- The first level of a Complex, and what is behind it. Assumes nothing.
 use Rattle.std.proofs.Common.{◌≡◌, ℕ, ◌+◌, List, [], ◌∷◌, drop, Some, None, Option, sym, refl, ap, ◌∙◌, not-suc-le-zero}
-use Rattle.std.proofs.lemmas.List.{drop_all}
 use Rattle.texts.specs.Tables.{Taken}
 use Rattle.mess.specs.declared.sep.Sep.{Sep}
 use Rattle.mess.specs.declared.sep.Sep.TheVariants.{Colon}
@@ -14,9 +13,6 @@ use Rattle.complex.specs.Fronts.{behind_first, before_colon}
 module _ (cs : List MChunk) (ls : List Level) (begin next : ℕ) where
   pub one_on : (l : Level) → Taken ls next (Some l) → ◌≡◌ {A = Option Parts} (Some (levels_from cs l.begin (drop (next + 1) ls))) (behind_first (levels_from cs begin (drop next ls)))
   one_on l t = sym (ap (λ xs. behind_first (levels_from cs begin xs)) (at_level ls next l t))
-
-  pub none_on : Taken ls next None → None ≡ behind_first (levels_from cs begin (drop next ls))
-  none_on t = sym (ap (λ xs. behind_first (levels_from cs begin xs)) (drop_all next ls t))
 
 -- what follows the first level
 pub colon_first : (o : Option ℕ) (ls : List (Sep × List MChunk)) (l : Sep × List MChunk) → Taken ls 0 (Some l) → l.0 ≡ Colon → o ≡ before_colon o ls

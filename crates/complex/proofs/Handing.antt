@@ -1,5 +1,5 @@
 -- Handing out the levels of a Complex from one of them on, and the MChunks of a level. Assumes nothing.
-use Rattle.std.proofs.Common.{◌≡◌, ℕ, zero, suc, ◌+◌, ◌-◌, ◌<◌, ◌≤◌, List, [], ◌∷◌, length, get_or, drop, Some, None, sym, refl, ap, ◌∙◌, subst, le_of_suc-le-suc, not-suc-le-zero, arith, length-take}
+use Rattle.std.proofs.Common.{◌≡◌, ℕ, zero, suc, ◌+◌, ◌-◌, ◌<◌, ◌≤◌, List, [], ◌∷◌, length, get_or, drop, Some, None, sym, refl, ap, ◌∙◌, subst, le_of_suc-le-suc, not-suc-le-zero, arith}
 use lib.ListN.{length-map}
 use Rattle.std.specs.List.{between}
 use Rattle.std.proofs.lemmas.List.{get_or-map}
@@ -10,10 +10,6 @@ use Rattle.mess.specs.declared.mess.Level.{Level}
 use Rattle.mess.specs.Parts.{MChunk, Parts}
 use Rattle.mess.specs.Labels.{levels_from, begin_in}
 use Rattle.complex.specs.Order.{levels_of}
-
--- an index of a part of a list is one of the list
-pub level_fits : {X : Type 0} (xs : List X) (from to i : ℕ) (x : X) → Taken (between from to xs) i (Some x) → from + i < to
-level_fits xs from to i x t = omega (arith, t.0, length-take (to - from) (drop from xs))
 
 -- where a level begins, counted from another
 pub begin_behind : (n : ℕ) (ls : List Level) (from i : ℕ) → begin_in n (drop from ls) i ≡ begin_in n ls (from + i)

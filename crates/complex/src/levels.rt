@@ -28,7 +28,7 @@ impl<'a> Parts for LevelIn<'a> {
     }
 
     fn part(&self, i: usize) -> MChunk<Word<'a>> {
-        self.get(i).unwrap_or(MChunk::Plain(Word::text(b"")))
+        MChunk::new(self.text, self.chunks[i])
     }
 
     fn agrees()
@@ -53,10 +53,11 @@ impl<'a> Parts for MessIn<'a> {
     }
 
     fn part(&self, i: usize) -> LevelIn<'a> {
-        // By `checked_sub` and `and_then` the arms would not know what `level` answered.
         if i == 0 {
             return self.first();
         }
+        // not `map_or`, which would make the first level each time, and not `map_or_else`: a closure that captures a view
+        // ensures nothing to its caller
         match self.level(i - 1) {
             Some((_, level)) => level,
             None => self.first(),
@@ -73,6 +74,6 @@ impl<'a> MessIn<'a> {
     pub fn cmp(&self, other: &MessIn<'_>) -> Ordering
         ensures { result ≡ complex_order (parts_of self.now) (parts_of other.now) }
     {
-        compare_lists(&*self, &*other)
+        compare_lists(self, other)
     }
 }

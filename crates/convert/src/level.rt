@@ -5,7 +5,6 @@ ghost use Rattle.chunk.specs.Said.{says as chunk_said};
 ghost use Rattle.chunk.specs.Tables.{listed_in};
 ghost use Rattle.general.specs.Views.{last_said};
 ghost use Rattle.mess.specs.Said.{says, mchunkwise};
-ghost use Rattle.complex.specs.Views.{level_in};
 ghost use Rattle.convert.specs.Convert.{number_mchunk, chunk_mchunk, last_mchunk};
 ghost use Rattle.convert.specs.Said.{level_said};
 

@@ -125,7 +125,7 @@ impl<'a> Levels<'a> {
                 ideal.semver.minor,
                 ideal.semver.patch,
             ),
-            // not `map_or_else`: a closure that captures a view ensures nothing to its caller (tried)
+            // not `map_or`: no closure is covered whose result names a lifetime that nothing it takes names
             Levels::General(general) => match general.epoch() {
                 Some(epoch) => Level::One(number_mchunk(epoch)),
                 None => body(general),
@@ -181,7 +181,8 @@ impl<'a> Parts for Levels<'a> {
         if i == 0 {
             return self.first();
         }
-        // not `map_or_else`: as in `first`
+        // not `map_or`, which would make the first level each time, and not `map_or_else`: a closure that captures a view
+        // ensures nothing to its caller
         match self.level(i - 1) {
             Some((_, level)) => level,
             None => self.first(),

@@ -17,7 +17,7 @@ use std::cmp::Ordering;
 use version::last::Last;
 use version::version::Version;
 
-/// A General label: its parts beside its text.
+/// A General label: its parts beside its text. No generic view, as at `IdealIn`.
 #[derive(Clone, Copy)]
 pub struct VersionIn<'a> {
     pub text: &'a [u8],
@@ -111,7 +111,7 @@ impl<'a> VersionIn<'a> {
         ensures { result ≡ level_order (parts_of self.now) (parts_of other.now) }
     {
         match self.cmp_chunks(other, self.chunks().len()) {
-            // not `then_with`: a closure that captures a view ensures nothing to its caller (tried)
+            // not `then_with`: a closure that captures a view ensures nothing to its caller
             Ordering::Equal => match self.last().cmp(&other.last()) {
                 Ordering::Equal => self.cmp_release(other),
                 decided => decided,

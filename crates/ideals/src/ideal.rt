@@ -1,6 +1,5 @@
 //! Ideal labels beside their texts: their parts, their order, tilde and caret.
 ghost use Rattle.std.specs.Prelude.{◌≡◌, true};
-ghost use Rattle.std.specs.Ordering.{nat_cmp, ordering_then};
 ghost use Rattle.std.specs.Option.{option_map};
 ghost use Rattle.order.specs.Laws.{Strict};
 ghost use Rattle.order.specs.Orders.{Same};
@@ -16,7 +15,8 @@ use chunk::release::compare_perhaps_releases;
 use order::{ElementOrder, StrictOrder};
 use std::cmp::Ordering;
 
-/// An Ideal label: its parts beside its text.
+/// An Ideal label: its parts beside its text. A view for each form and no generic one, whose methods would all have to
+/// stand in one crate below the forms.
 #[derive(Clone, Copy)]
 pub struct IdealIn<'a> {
     pub text: &'a [u8],
@@ -56,7 +56,7 @@ impl<'a> IdealIn<'a> {
         let a = self.semver;
         let b = other.semver;
         match (a.major, a.minor, a.patch).cmp(&(b.major, b.minor, b.patch)) {
-            // no `then_with`: a closure that holds the labels would need its contract written out
+            // not `then_with`: a closure that captures a view ensures nothing to its caller
             Ordering::Equal => self.cmp_release(other),
             decided => decided,
         }

@@ -30,7 +30,7 @@ impl SemVer {
     fn read(text: Text<'_>) -> Option<(SemVer, usize)>
         ensures { Gives (parts_in (bytes_of text.entry)) ideal_of (bytes_of text.entry) 0 result }
     {
-        // every cursor step has its own `let .. else`, as the parts are read one behind the other
+        // by a rule of this project each step of the cursor is a `let .. else` here, so that one sees where reading stops
         let Some((major, at)) = unsigned(text.bytes, 0) else {
             return None;
         };

@@ -1,7 +1,7 @@
 -- The MChunk in front of a rest. Assumes nothing.
-use Rattle.std.proofs.Common.{◌≡◌, ℕ, ◌+◌, ◌-◌, ◌≤◌, cond, List, length, take, drop, Some, None, sym, ap, ◌∙◌, arith, length-drop, drop-drop}
+use Rattle.std.proofs.Common.{◌≡◌, ℕ, ◌+◌, ◌-◌, ◌≤◌, cond, List, length, take, drop, Some, sym, ap, ◌∙◌, arith, length-drop, drop-drop}
 use Rattle.std.specs.List.{between}
-use Rattle.parsers.proofs.Stretches.{no_stretch, as_stretch}
+use Rattle.parsers.proofs.Stretches.{as_stretch}
 use Rattle.mess.specs.declared.rest.Rest.{Rest}
 use Rattle.mess.specs.declared.class.Class.{Class}
 use Rattle.mess.specs.Parts.{plain}
@@ -37,9 +37,6 @@ pub behind : {r s : Rest} (count : ℕ) → count ≤ length r.bytes.now → s.b
 behind {r} {s} count h b p = let n : count ≡ s.from - r.from = omega (arith, p) in record { past = omega (arith, p); fits = omega (arith, p); bytes = b ∙ ap (λ k. drop k r.bytes.now) n }
 
 module _ (rest : Rest) {c : Class × ℕ} (s : Scanned rest.bytes.now c) where
-  pub no_chunk : c.1 ≡ 0 → mchunk_of rest.bytes.now ≡ None
-  no_chunk l = rw (no_stretch s.end (omega (arith, l)))
-
   pub a_chunk : (c.1 ≡ 0 → ⊥) → (end : Rest) → Follows rest end → end.from ≡ rest.from + c.1 → end.bytes.now ≡ drop c.1 rest.bytes.now → (entry : MEntry)
       → ((text : List ℕ) → mchunk_in text entry ≡ settled c.0 end.bytes.now (between rest.from end.from text))
       → GivesIn mchunk_in mchunk_of rest (Some (entry, end))

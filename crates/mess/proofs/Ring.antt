@@ -1,5 +1,5 @@
 -- The ring that reads levels: a level and the further ones, and the further ones behind a sign. Assumes nothing.
-use Rattle.std.proofs.Common.{◌≡◌, ℕ, zero, suc, ◌-◌, ◌<◌, ◌≤◌, List, [], ◌∷◌, ◌++◌, map, length, take, drop, Some, None, Option, sym, refl, ap, ◌∙◌, subst, append_assoc, append-nil, le_refl, arith, length-append}
+use Rattle.std.proofs.Common.{◌≡◌, ℕ, zero, suc, ◌-◌, ◌<◌, ◌≤◌, List, [], ◌∷◌, ◌++◌, map, length, take, Some, None, Option, sym, refl, ap, ◌∙◌, subst, append_assoc, append-nil, arith, length-append}
 use mathlib.Core.List.{map-append}
 use lib.ListN.{length-map}
 use Rattle.std.specs.List.{between}
@@ -12,11 +12,10 @@ use Rattle.mess.specs.declared.mess.Level.{Level}
 use Rattle.mess.specs.declared.mess.Mess.{Mess}
 use Rattle.mess.specs.declared.sep.Sep.{Sep}
 use Rattle.mess.specs.Parts.{MChunk, Parts}
-use Rattle.mess.specs.Reading.{sep_of, level_of, signed, next_of, levels_by, complex_of}
+use Rattle.mess.specs.Reading.{sep_of, level_of, signed, next_of, levels_by}
 use Rattle.texts.specs.Tables.{rows_of, pushed}
 use Rattle.mess.specs.Tables.{MEntry, mchunk_in}
-use Rattle.mess.specs.Labels.{mchunks_in, levels_from, parts_in}
-use Rattle.mess.specs.Rests.{EndsIn}
+use Rattle.mess.specs.Labels.{mchunks_in, levels_from}
 use Rattle.mess.specs.Filled.{Fitted, LevelRead, LevelsRead, LevelsInto, NextInto}
 use Rattle.mess.proofs.Chunks.{stays, further_on, ends_on, shorter}
 use Rattle.mess.proofs.Filling.{Split, split, one_more, many_stop}
@@ -115,13 +114,3 @@ module _ (r d : Rest) (b : ℕ) (p : Split r (Some (b, d))) (m : Mess) where
           ∙ goes_on k b d.bytes.now s.bytes.now sep q (omega (arith, ap length p.0, h)) e
           (t.reads text (ends_on text (split {r = r} {s = d} b p) i) (k - 1) (omega (arith, ap length p.0, h)) ∙ ap (λ n. Some (levels_from (mchunks_in text m'.chunks) n t.kept.new, s.bytes.now)) z);
     }
-
--- a whole text, into tables of no rows
-pub whole_read : {text : List ℕ} {r s : Rest} (m m' : Mess) → r.bytes.now ≡ text → r.from ≡ 0 → rows_of m.chunks ≡ [] → rows_of m.levels ≡ [] → LevelsRead r m m' s → complex_of text ≡ Some (parts_in text m', drop s.from text)
-whole_read {text} {r} {s} m m' w z c l t =
-    let i : EndsIn text r = ap (λ n. drop n text) z ∙ sym w in
-    let e : t.kept.new ≡ rows_of m'.levels = ap (λ ls. ls ++ t.kept.new) (sym l) ∙ sym t.kept.levels_hold in
-    ap complex_of (sym w) ∙ t.reads text i (length r.bytes.now) (le_refl _)
-    ∙ ap (λ n. Some (levels_from (mchunks_in text m'.chunks) n t.kept.new, s.bytes.now)) (ap length c)
-    ∙ ap (λ ls. Some (levels_from (mchunks_in text m'.chunks) 0 ls, s.bytes.now)) e
-    ∙ ap (λ bs. Some (parts_in text m', bs)) (sym (ends_on text t.follows i))

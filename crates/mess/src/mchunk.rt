@@ -1,7 +1,6 @@
 //! MChunks: the parts of a level, and their order.
 ghost use Rattle.std.specs.Prelude.{◌≡◌, ℕ, List};
 ghost use Rattle.texts.specs.Tables.{bytes_in};
-ghost use Rattle.word.specs.Words.{word_of};
 ghost use Rattle.mess.specs.Reading.{mchunk_of};
 ghost use Rattle.mess.specs.Classes.{settled};
 ghost use Rattle.mess.specs.Tables.{said_by, mchunk_in, text_of};

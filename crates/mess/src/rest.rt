@@ -27,10 +27,8 @@ impl<'a> Rest<'a> {
     pub(crate) fn split_first(self) -> Option<(u8, Rest<'a>)>
         ensures { MatchOption result (self.entry.bytes.now ≡ []) (λ x. (self.entry.bytes.now ≡ x.0 ∷ x.1.bytes.now) × (x.1.from ≡ self.entry.from + 1)) }
     {
-        let [byte, ..] = self.bytes else {
-            return None;
-        };
-        Some((*byte, self.behind(1)))
+        let byte = *self.bytes.first()?;
+        Some((byte, self.behind(1)))
     }
 
     /// The rest behind a mark, if that stands in front.

@@ -21,7 +21,8 @@ fn cmp_converted(ideal: &IdealIn<'_>, complex: &ComplexIn<'_>) -> Ordering
 fn cmp_lenient_patch(ideal: &IdealIn<'_>, complex: &ComplexIn<'_>) -> Ordering
     ensures { result ≡ by_lenient (ideal_parts ideal.now) (complex_parts complex.now) }
 {
-    // not `map_or_else`: a closure that captures a view ensures nothing to its caller (tried)
+    // not `map_or`, which would convert each time, and not `map_or_else`: a closure that captures a view ensures nothing to
+    // its caller
     match complex.lenient(2) {
         // 1.2.3 is above 1.2.3a_x
         Some(number) => ideal.semver.patch.cmp(&number).then(Ordering::Greater),

@@ -38,7 +38,7 @@ fn cmp_epoch(general: &VersionIn<'_>, complex: &ComplexIn<'_>) -> Ordering
     let (Some(number), Some(rest)) = (levels.epoch(), levels.behind_first()) else {
         return Ordering::Greater;
     };
-    // not `then_with`: a closure that captures a view ensures nothing to its caller (tried)
+    // not `then_with`: a closure that captures a view ensures nothing to its caller
     match general.epoch_or_zero().cmp(&number) {
         Ordering::Equal => {
             let mine = Levels::Body(*general);

@@ -6,8 +6,7 @@ use Rattle.std.specs.Option.{option_map}
 use Rattle.std.proofs.lemmas.List.{drop_more, drop_all, map_push, length_push, get_or-map}
 use Rattle.std.proofs.lemmas.Bool.{cond-true, cond-false, eq-eqb, ne_eqb, lt-ltb, cases_lt}
 use Rattle.texts.specs.declared.table.Rows.{Rows}
-use Rattle.parsers.specs.Reading.{Reader, follow, push, behind_of, many_of, dotted_of, spelled_of}
-use Rattle.parsers.proofs.Joining.{some_same}
+use Rattle.parsers.specs.Reading.{Reader, push, behind_of, many_of, dotted_of, spelled_of}
 use Rattle.texts.specs.Tables.{rows_of, pushed, Taken}
 use Rattle.parsers.specs.Places.{Part, said_in, Gives, PerhapsGives, Marked, perhaps_read}
 
@@ -26,11 +25,6 @@ module _ {C : Type 0} (R : Reader C) (text : List ℕ) (mark at : ℕ) where
   pub no_mark : Marked mark text at None → behind_of mark R (drop at text) ≡ None
   no_mark m = ⊎_elim (λ h. rw (drop_more text at 0 h) (cond-false _ _ _ (ne_eqb _ _ (m h)))) (λ h. rw (drop_all at text h) refl) (cases_lt at (length text))
 
--- a part behind a mark, at a place
-pub behind_gives : {U V : Type 0} (den : U → V) (R : Reader V) (text : List ℕ) (mark at end : ℕ) → Marked mark text at (Some end) → (r : Option (U × ℕ)) → Gives den R text end r → Gives den (behind_of mark R) text at r
-behind_gives den R text mark at end m None g = behind_mark R text mark at end m ∙ g
-behind_gives den R text mark at end m (Some r) g = (behind_mark R text mark at end m ∙ g.0, omega (arith, m.2, g.1), g.2)
-
 many_step : {C : Type 0} (D : Reader C) (k : ℕ) (bs : List ℕ) (c : C) (rest : List ℕ) → 0 < k → D bs ≡ Some (c, rest) → (j : ℕ) × (k ≡ j + 1) × (many_of D k bs ≡ push c (many_of D j rest))
 many_step D zero bs c rest h e = absurd (omega arith)
 many_step D (suc k) bs c rest h e = (k, omega arith, rw e refl)
@@ -38,14 +32,6 @@ many_step D (suc k) bs c rest h e = (k, omega arith, rw e refl)
 many_stop : {C : Type 0} (D : Reader C) (k : ℕ) (bs : List ℕ) → D bs ≡ None → many_of D k bs ≡ ([], bs)
 many_stop D zero bs e = refl
 many_stop D (suc k) bs e = rw e refl
-
--- there is a first part
-pub not_empty : {C : Type 0} (R : Reader C) (bs rest : List ℕ) → dotted_of R bs ≡ Some ([], rest) → ⊥
-not_empty {C} R bs rest = go (R bs)
-  where
-    go : (o : Option (C × List ℕ)) → follow o (λ c rest. Some (push c (many_of (behind_of 46 R) (length rest) rest))) None ≡ Some ([], rest) → ⊥
-    go None e = let z : ◌≡◌ {A = ℕ} 0 1 = cc in omega arith
-    go (Some r) e = let h = ap (λ r. r.0) (some_same e) in let z : ◌≡◌ {A = ℕ} 0 1 = cc in omega arith
 
 pub said_counted : {P : Type 0} (p : Part P) (text : List ℕ) (t : Rows P) → length (said_in p text t) ≡ length (rows_of t)
 said_counted p text t = length-map (rows_of t) (p.says text)
@@ -60,16 +46,6 @@ pub record Joined {P : Type 0} (p : Part P) (text : List ℕ) (at end : ℕ) (ro
   pub sofar : dotted_of p.reader (drop at text) ≡ Some (glue (map (p.says text) rows) (many_of (behind_of 46 p.reader) fuel (drop end text)))
 
 module _ {P : Type 0} {p : Part P} {text : List ℕ} where
-  pub start : (at end : ℕ) (e : P) → Gives (p.says text) p.reader text at (Some (e, end)) → Joined p text at end (e ∷ [])
-  start at end e g = record {
-    past = g.1;
-    fits = g.2;
-    room = omega (arith, g.1);
-    fuel = length (drop end text);
-    enough = omega (arith, length-drop end text);
-    sofar = rw g.0 refl;
-  }
-
   module _ {at end : ℕ} {rows : List P} (j : Joined p text at end rows) where
     pub more : length text ≤ 128 → (behind to : ℕ) (e : P) → Marked 46 text end (Some behind) → Gives (p.says text) p.reader text behind (Some (e, to)) → Joined p text at to (pushed rows e)
     more short behind to e m g =

@@ -8,7 +8,7 @@ use Rattle.std.proofs.lemmas.Bool.{cond-true, cond-false, le-leb, lt-leb}
 use Rattle.parsers.specs.Grammar.{worth, limit}
 use Rattle.parsers.specs.Reading.{digits_of}
 use Rattle.parsers.specs.Places.{EndOf, Gives}
-use Rattle.parsers.proofs.Stretches.{no_stretch, as_stretch}
+use Rattle.parsers.proofs.Stretches.{as_stretch}
 
 grows : (n : ℕ) (w : List ℕ) → n ≤ worth n w
 grows n [] = omega arith
@@ -24,9 +24,6 @@ pub record Counting (w : List ℕ) (i value : ℕ) : Type 0 where
   pub small : value ≤ limit
 
 module _ {text : List ℕ} {at end : ℕ} (e : EndOf is_ascii_digit text at end) where
-  pub none : end ≤ at → digits_of (drop at text) ≡ None
-  none l = rw (no_stretch e l) refl
-
   module _ {i value : ℕ} (c : Counting (between at end text) i value) where
     module _ (h : i < end - at) where
       next : worth 0 (take (i + 1) (between at end text)) ≡ value * 10 + (get_or (between at end text) i 0 - 48)

@@ -1,5 +1,5 @@
 -- Where a stretch ends, and what its reader answers. Assumes nothing.
-use Rattle.std.proofs.Common.{◌≡◌, ℕ, ◌+◌, ◌-◌, ◌<◌, ◌≤◌, Bool, true, List, [], ◌∷◌, ◌++◌, length, drop, Some, None, sym, refl, ap, ◌∙◌, subst, ⊎_elim, arith, take-append-drop, drop-drop}
+use Rattle.std.proofs.Common.{◌≡◌, ℕ, ◌+◌, ◌-◌, ◌<◌, ◌≤◌, Bool, true, List, [], ◌∷◌, ◌++◌, length, drop, Some, sym, refl, ap, ◌∙◌, subst, ⊎_elim, arith, take-append-drop, drop-drop}
 use Rattle.std.specs.List.{between}
 use Rattle.std.proofs.lemmas.List.{drop_more, drop_all}
 use Rattle.std.proofs.lemmas.List.Edits.{get_or-between, length-between}
@@ -17,11 +17,6 @@ cut text at r h =
     let n : at + (r - at) ≡ r = omega arith in
     sym (take-append-drop (r - at) (drop at text)) ∙ ap (λ l. between at r text ++ l) (drop-drop (r - at) at text ∙ ap (λ k. drop k text) n)
 
--- a stretch, if it is not empty
-some_none : (w rest : List ℕ) → length w ≡ 0 → some (w, rest) ≡ None
-some_none [] rest h = refl
-some_none (b ∷ w) rest h = absurd (omega arith)
-
 some_some : (w rest : List ℕ) → 0 < length w → some (w, rest) ≡ Some (w, rest)
 some_some [] rest h = absurd (omega arith)
 some_some (b ∷ w) rest h = refl
@@ -37,12 +32,6 @@ module _ {p : ℕ → Bool} {text : List ℕ} {at r : ℕ} (e : EndOf p text at 
 
   pub spanned : at ≤ length text → span p (drop at text) ≡ (between at r text, drop r text)
   spanned h = ap (span p) (cut text at r (e.past h)) ∙ span_complete p _ _ inside outside
-
-  pub no_stretch : r ≤ at → stretch_of p (drop at text) ≡ None
-  no_stretch l = ⊎_elim
-      (λ h. ap some (spanned (omega arith)) ∙ some_none _ _ (length-between text at r e.fits ∙ omega arith))
-      (λ h. ap (stretch_of p) (drop_all at text h))
-      (cases_lt at (length text))
 
   pub as_stretch : at < r → stretch_of p (drop at text) ≡ Some (between at r text, drop r text)
   as_stretch l = let f = e.fits in ap some (spanned (omega arith)) ∙ some_some _ _ (omega (arith, length-between text at r e.fits))

@@ -1,4 +1,5 @@
-//! Readers at a place in a text, which several forms of label share.
+//! Readers at a place in a text, which several forms of label share. The text and the place are two parameters, as the place
+//! is the cursor and the text stays.
 #![tactic(auto)]
 
 ghost use Rattle.std.specs.Prelude.{◌≡◌, ℕ, Bool, not, length, drop, position};
@@ -97,6 +98,8 @@ pub fn stretch_end<C: Class>(text: &[u8], at: usize) -> usize
     }
 }
 
+// `run_end`, `alphanums` and `hyphenated_alphanums` are instances under the names of the Rust source.
+
 /// Where the run at a place ends: the first place there or behind it whose byte is no letter or digit, or the end.
 pub fn run_end(text: &[u8], at: usize) -> usize
     ensures { EndOf (or_digit is_ascii_alphabetic) text.now at result }
@@ -108,11 +111,7 @@ pub fn run_end(text: &[u8], at: usize) -> usize
 pub fn mark(bytes: &[u8], at: usize, byte: u8) -> Option<usize>
     ensures { Marked byte bytes.now at result }
 {
-    if *bytes.get(at)? == byte {
-        Some(at + 1)
-    } else {
-        None
-    }
+    (*bytes.get(at)? == byte).then_some(at + 1)
 }
 
 /// The stretch of a class at a place, if there is a byte of it, and the place behind it.

@@ -1,5 +1,5 @@
 -- What a line of the protocol asks. Assumes nothing.
-use Rattle.std.specs.Prelude.{ℕ, Bool, false, cond, ◌||◌, List, [], ◌∷◌, Some, None, codes, Ok, Err, Result, Option, ◌==◌, nat_eq}
+use Rattle.std.specs.Prelude.{ℕ, cond, ◌||◌, List, Some, None, codes, Ok, Err, Result, Option}
 use Rattle.std.specs.Str.{bytes_eq}
 use Rattle.lines.specs.Line.{blank, comment}
 use Rattle.lines.specs.Split.{word_of, rest_of}

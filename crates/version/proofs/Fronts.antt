@@ -1,17 +1,13 @@
 -- Words read in the front of a text. Assumes nothing.
-use Rattle.std.proofs.Common.{◌≡◌, ℕ, ◌-◌, ◌<◌, ◌≤◌, min, List, length, take, drop, Some, None, sym, refl, ap, ◌∙◌, ⊎_elim, arith}
+use Rattle.std.proofs.Common.{◌≡◌, ℕ, ◌<◌, ◌≤◌, List, length, take, drop, Some, None, sym, refl, ap, ◌∙◌}
 use Rattle.std.specs.List.{between}
-use Rattle.std.proofs.lemmas.List.{take_all, take-take, drop_more, drop_all}
+use Rattle.std.proofs.lemmas.List.{take-take, drop_more, drop_all}
 use Rattle.std.proofs.lemmas.Slice.{between_is}
-use Rattle.std.proofs.lemmas.Bool.{cases_lt}
 use Rattle.texts.specs.declared.table.Span.{Span}
 use Rattle.texts.specs.Tables.{bytes_in}
 use Rattle.version.specs.Reading.{ended}
 
 module _ (text : List ℕ) where
-  pub front_is : (to n : ℕ) → n ≡ min to (length text) → take (n - 0) text ≡ take to text
-  front_is to n e = ⊎_elim (λ h. ap (λ k. take k text) (omega arith)) (λ h. take_all (n - 0) text (omega arith) ∙ sym (take_all to text h)) (cases_lt to (length text))
-
   -- what lies in the front lies in the text
   pub between_front : (from to n : ℕ) → to ≤ n → between from to (take n text) ≡ between from to text
   between_front from to n h = between_is (take n text) from to ∙ ap (drop from) (take-take to n text h) ∙ sym (between_is text from to)

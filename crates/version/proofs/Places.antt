@@ -3,31 +3,26 @@ use Rattle.std.proofs.Common.{◌≡◌, ℕ, zero, suc, List, [], ◌∷◌, �
 use Rattle.std.specs.Option.{option_map}
 use Rattle.std.specs.Char.{is_ascii_alphabetic}
 use Rattle.std.proofs.lemmas.List.{map_push}
-use Rattle.std.proofs.lemmas.Bool.{cond-true, cond-false, eq-eqb, ne_eqb}
+use Rattle.std.proofs.lemmas.Bool.{cond-false, ne_eqb}
 use Rattle.texts.specs.declared.table.Span.{Span}
 use Rattle.chunk.specs.Piece as piece
 use Rattle.chunk.specs.Piece.{Piece}
 use Rattle.texts.specs.Tables.{rows_of, Taken, Popped}
 use Rattle.chunk.specs.declared.chunk.Chunk.{Chunk}
 use Rattle.chunk.specs.Said.{piece_in, chunk_part}
-use Rattle.parsers.proofs.Lists.{not_empty, said_counted, handed_out}
+use Rattle.parsers.proofs.Lists.{said_counted, handed_out}
 use Rattle.chunk.specs.declared.chunks.Chunks.{Chunks}
-use Rattle.chunk.specs.Reading.{chunk_of, chunks_of}
 use Rattle.chunk.specs.Tables.{chunks_in}
 use Rattle.version.specs.declared.last.Last.{Last}
 use Rattle.version.specs.declared.version.Version.{Version}
 use Rattle.version.specs.Labels.{last_in, parts_in}
-use Rattle.version.specs.Numbers.{single, single_at, first_of, nth_of}
+use Rattle.version.specs.Numbers.{single, single_at, nth_of}
 use Rattle.version.specs.Reading.{front_of, final_of, last_of}
 use Rattle.version.proofs.Generals.{front_push, final_push}
 
 pub mapped_same : (o : Option ℕ) → option_map (λ n. n) o ≡ o
 mapped_same None = refl
 mapped_same (Some n) = refl
-
--- there is a last chunk
-pub no_chunks : (text bs rest : List ℕ) (all : Chunks) → chunks_of bs ≡ Some (chunks_in text all, rest) → rows_of all.chunks ≡ [] → ⊥
-no_chunks text bs rest all g e = not_empty (chunk_of is_ascii_alphabetic) bs rest (g ∙ ap (λ l. Some (map (piece_in text) l, rest)) e)
 
 -- the last chunk taken off, and made the Last
 module _ (text : List ℕ) (all left : Chunks) (chunk : Chunk Span) (p : Popped (rows_of all.chunks) (rows_of left.chunks) (Some chunk)) where
@@ -56,9 +51,6 @@ single_taken (y ∷ ys) (suc n) (Some x) h = single_taken ys n (Some x) (le_of_s
 module _ (v : Version) (n count : ℕ) (is : count ≡ length (rows_of v.chunks.chunks)) (text : List ℕ) where
   counts : length (chunks_in text v.chunks) ≡ count
   counts = said_counted (chunk_part is_ascii_alphabetic) text v.chunks.chunks ∙ sym is
-
-  pub at_last : n ≡ count → nth_of (parts_in text v) n ≡ first_of (last_in text v.last)
-  at_last e = cond-true _ _ _ (eq-eqb _ _ (e ∙ sym counts))
 
   pub at_chunk : (n ≡ count → ⊥) → (r : Option (Chunk Span)) → Taken (rows_of v.chunks.chunks) n r → nth_of (parts_in text v) n ≡ single_of (option_map (piece_in text) r)
   at_chunk ne r h = cond-false _ _ _ (ne_eqb _ _ (λ e. ne (e ∙ counts))) ∙ single_taken _ n _ (handed_out (chunk_part is_ascii_alphabetic) text v.chunks.chunks n r h)

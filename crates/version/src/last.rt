@@ -34,8 +34,8 @@ fn front(text: &[u8], to: u8) -> &[u8]
     text.get(..to as usize).unwrap_or(text)
 }
 
-/// The letters at a place, in the front of a text, and the place behind them. `parsers::stretch` reads a `Text`, whose
-/// places all fit a `Span`; here they fit since the front ends at a place of one.
+/// The letters at a place, in the front of a text, and the place behind them. Beside `parsers::stretch`, which needs no bound
+/// of its caller since all places of a `Text` fit a `Span`: here they fit only since the front ends at a place of one.
 fn letters(text: &[u8], to: u8, at: usize) -> Option<(Span, usize)>
     ensures { Gives (bytes_in text.now) (stretch_of is_ascii_alphabetic) (take to text.now) at result }
 {

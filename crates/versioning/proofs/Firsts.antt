@@ -181,9 +181,6 @@ module _ {A B C : Type 0} (I : Reader A) (G : Reader B) (K : Reader C) (text : L
   pub parsed_first : parsed_by (first_of I G K) text ≡ first_parsed (parsed_by I text) (parsed_by G text) (parsed_by K text)
   parsed_first = ⊎_elim (λ s. rw (enters text s.0 s.1) (by_readers (I text) (G text) (K text))) (λ l. let e = l.2 in rw e refl) (lengths text)
 
-  pub parsed_ideal : (a : A) (n : ℕ) → ◌≡◌ {A = Result (A × ℕ) LabelFault} (Ok (a, n)) (parsed_by I text) → ◌≡◌ {A = Result (OneOf A B C × ℕ) LabelFault} (Ok (ideal a, n)) (parsed_by (first_of I G K) text)
-  parsed_ideal a n e = ap (λ i. first_parsed i (parsed_by G text) (parsed_by K text)) e ∙ sym parsed_first
-
   module _ (f : LabelFault) (d : ◌≡◌ {A = Result (A × ℕ) LabelFault} (Err f) (parsed_by I text)) where
     pub parsed_general : (b : B) (n : ℕ) → ◌≡◌ {A = Result (B × ℕ) LabelFault} (Ok (b, n)) (parsed_by G text) → ◌≡◌ {A = Result (OneOf A B C × ℕ) LabelFault} (Ok (general b, n)) (parsed_by (first_of I G K) text)
     parsed_general b n e = ap (λ g. first_parsed (Err f) g (parsed_by K text)) e ∙ ap (λ i. first_parsed i (parsed_by G text) (parsed_by K text)) d ∙ sym parsed_first

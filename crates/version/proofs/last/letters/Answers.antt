@@ -1,4 +1,4 @@
-use Rattle.std.proofs.Common.{◌≤◌, length, refl, ◌∙◌, subst, arith, length-take}
+use Rattle.std.proofs.Common.{◌≤◌, refl, ◌∙◌, subst, arith, length-take}
 use Rattle.std.specs.Char.{is_ascii_alphabetic}
 use Rattle.parsers.specs.Places.{EndOf}
 use Rattle.parsers.proofs.Stretches.{as_stretch}

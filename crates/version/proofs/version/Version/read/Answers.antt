@@ -1,4 +1,4 @@
-use Rattle.std.proofs.Common.{◌≡◌, drop, sym, refl, subst, arith}
+use Rattle.std.proofs.Common.{◌≡◌, sym, refl, subst, arith}
 use Rattle.texts.specs.Tables.{bytes_in}
 use Rattle.texts.specs.Texts.{bytes_of}
 use Rattle.parsers.specs.Places.{PerhapsGives}
