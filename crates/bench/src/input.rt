@@ -19,16 +19,19 @@ pub fn run(rt: &HostRuntime) -> io::Result<()> {
 }
 
 fn from_input(rt: &HostRuntime) -> io::Result<()> {
-    let mut reader = BufReader::new(rt.alloc(), rt.stdin())?;
-    if reader.fill_buf()?.is_empty() {
-        return println!(rt; "{USAGE}");
+    let lines = do_lines(rt, BufReader::new(rt.alloc(), rt.stdin())?)?;
+    if lines == 0 {
+        println!(rt; "{USAGE}")?;
     }
-    do_lines(rt, reader)
+    Ok(())
 }
 
 fn from_file(rt: &HostRuntime, path: &str) -> io::Result<()> {
     match fs::open(rt, path) {
-        Ok(file) => do_lines(rt, BufReader::new(rt.alloc(), file)?),
+        Ok(file) => {
+            let _lines = do_lines(rt, BufReader::new(rt.alloc(), file)?)?;
+            Ok(())
+        }
         Err(e) => {
             eprintln!(rt; "bench: the job {path} cannot be opened")?;
             Err(e)
@@ -36,10 +39,12 @@ fn from_file(rt: &HostRuntime, path: &str) -> io::Result<()> {
     }
 }
 
-/// Does a job line by line.
-fn do_lines<R: BufRead + Drop>(rt: &HostRuntime, reader: R) -> io::Result<()> {
+/// Does a job line by line, and says how many lines there were.
+fn do_lines<R: BufRead + Drop>(rt: &HostRuntime, reader: R) -> io::Result<u64> {
+    let mut count: u64 = 0;
     for line in reader.split(rt.alloc(), b'\n') {
         answer(rt, line?.as_slice())?;
+        count = count.saturating_add(1);
     }
-    Ok(())
+    Ok(count)
 }
