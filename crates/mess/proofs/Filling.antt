@@ -7,17 +7,17 @@ use Rattle.mess.specs.declared.rest.Rest.{Rest}
 use Rattle.texts.specs.declared.table.Rows.{Rows}
 use Rattle.mess.specs.Parts.{MChunk}
 use Rattle.mess.specs.Reading.{mchunk_of}
-use Rattle.texts.specs.Tables.{rows_of, pushed}
+use Rattle.texts.specs.Tables.{rows_of, with_row}
 use Rattle.mess.specs.Tables.{MEntry, mchunk_in}
 use Rattle.mess.specs.Rests.{Follows, EndsIn, GivesIn}
 use Rattle.mess.specs.Filled.{Fitted, LevelRead}
 use Rattle.mess.proofs.Chunks.{stays, further_on, ends_on, shorter, behind}
 
 -- a table with room takes one row more
-pub one_more : {T : Type 0} {at : ℕ} (rows : List T) (x : T) → 2 * length rows ≤ at → at < 128 → pushed rows x ≡ rows ++ x ∷ []
+pub one_more : {T : Type 0} {at : ℕ} (rows : List T) (x : T) → 2 * length rows ≤ at → at < 128 → with_row rows x ≡ rows ++ x ∷ []
 one_more rows x f h = cond-true (ltb (length rows) 64) (rows ++ x ∷ []) rows (lt-ltb _ _ (omega (arith, f)))
 
-pub fits_more : {T : Type 0} {at to : ℕ} (rows more : List T) (x : T) → 2 * length rows ≤ at → at < 128 → at + 2 ≤ to → more ≡ pushed rows x → 2 * length more ≤ to
+pub fits_more : {T : Type 0} {at to : ℕ} (rows more : List T) (x : T) → 2 * length rows ≤ at → at < 128 → at + 2 ≤ to → more ≡ with_row rows x → 2 * length more ≤ to
 fits_more rows more x f h l e = let n : length more ≡ length rows + 1 = ap length (e ∙ one_more rows x f h) ∙ length-append rows (x ∷ []) in omega (arith, f, n)
 
 -- the first byte, and the rest behind it
@@ -59,7 +59,7 @@ pub record Filling (s : Rest) (before : Rows MEntry) (e : Rest) (t : Rows MEntry
   pub sofar : (text : List ℕ) → EndsIn text s → many_of dot_of (length s.bytes.now) s.bytes.now ≡ glue (map (mchunk_in text) new) (many_of dot_of fuel e.bytes.now)
 
 -- the first MChunk
-module _ {r s : Rest} (chunks t : Rows MEntry) (first : MEntry) (f : Fitted r.from chunks) (g : GivesIn mchunk_in mchunk_of r (Some (first, s))) (e : rows_of t ≡ pushed (rows_of chunks) first) where
+module _ {r s : Rest} (chunks t : Rows MEntry) (first : MEntry) (f : Fitted r.from chunks) (g : GivesIn mchunk_in mchunk_of r (Some (first, s))) (e : rows_of t ≡ with_row (rows_of chunks) first) where
   near : r.from < 128
   near = omega (arith, r.short, g.1, g.0.fits)
 
@@ -92,7 +92,7 @@ module _ {r s : Rest} (chunks t : Rows MEntry) (first : MEntry) (f : Fitted r.fr
     at_dot d (e, p) n = finish j (ap dot_of e ∙ n)
 
 -- one more
-pub more : {s e d to : Rest} {before t u : Rows MEntry} (x : MEntry) → Filling s before e t → Split e (Some (46, d)) → GivesIn mchunk_in mchunk_of d (Some (x, to)) → rows_of u ≡ pushed (rows_of t) x → Filling s before to u
+pub more : {s e d to : Rest} {before t u : Rows MEntry} (x : MEntry) → Filling s before e t → Split e (Some (46, d)) → GivesIn mchunk_in mchunk_of d (Some (x, to)) → rows_of u ≡ with_row (rows_of t) x → Filling s before to u
 more {s} {e} {d} {to} {before} {t} {u} x j p g q =
     let f : Follows e d = split 46 p in
     let few : e.from + 1 < 128 = omega (arith, d.short, g.0.fits, g.1, p.1) in

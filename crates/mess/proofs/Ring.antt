@@ -13,7 +13,7 @@ use Rattle.mess.specs.declared.mess.Mess.{Mess}
 use Rattle.mess.specs.declared.sep.Sep.{Sep}
 use Rattle.mess.specs.Parts.{MChunk, Parts}
 use Rattle.mess.specs.Reading.{sep_of, level_of, signed, next_of, levels_by}
-use Rattle.texts.specs.Tables.{rows_of, pushed}
+use Rattle.texts.specs.Tables.{rows_of, with_row}
 use Rattle.mess.specs.Tables.{MEntry, mchunk_in}
 use Rattle.mess.specs.Labels.{mchunks_in, levels_from}
 use Rattle.mess.specs.Filled.{Fitted, LevelRead, LevelsRead, LevelsInto, NextInto}
@@ -86,7 +86,7 @@ module _ (r d : Rest) (b : ℕ) (p : Split r (Some (b, d))) (m : Mess) where
   no_sign e = nothing r m m refl refl (ap next_of p.0 ∙ rw (← e))
 
   module _ (sep : Sep) (e : Some sep ≡ sep_of b) (begin : ℕ) (at : begin ≡ length (rows_of m.chunks)) (m₁ m' : Mess) (c : rows_of m₁.chunks ≡ rows_of m.chunks)
-      (f : Fitted r.from m.levels) (l : rows_of m₁.levels ≡ pushed (rows_of m.levels) (record { sep = sep; begin = begin })) where
+      (f : Fitted r.from m.levels) (l : rows_of m₁.levels ≡ with_row (rows_of m.levels) (record { sep = sep; begin = begin })) where
     abbrev level : Level
     level = record { sep = sep; begin = begin }
 
@@ -95,7 +95,7 @@ module _ (r d : Rest) (b : ℕ) (p : Split r (Some (b, d))) (m : Mess) where
 
     -- a sign without a level: the table is as before
     pub no_level : (m'' : Mess) → LevelsInto d m₁ m' None → rows_of m''.chunks ≡ rows_of m'.chunks → rows_of m''.levels ≡ take (length (rows_of m.levels)) (rows_of m'.levels) → NextInto r m m'' r
-    no_level m'' (n, k, j) x y = nothing r m m'' (x ∙ k ∙ c) (y ∙ ap (take (length (rows_of m.levels))) (j ∙ grown) ∙ take_at (rows_of m.levels) (level ∷ []) _ refl) (ap next_of p.0 ∙ rw (← e, n))
+    no_level m'' (n, k, j) x y = nothing r m m'' (x ∙ ap rows_of k ∙ c) (y ∙ ap (take (length (rows_of m.levels))) (ap rows_of j ∙ grown) ∙ take_at (rows_of m.levels) (level ∷ []) _ refl) (ap next_of p.0 ∙ rw (← e, n))
 
     pub a_level : (s : Rest) → LevelsRead d m₁ m' s → NextInto r m m' s
     a_level s t = record {

@@ -31,7 +31,7 @@ pub record LevelRead (r : Rest) (before after : Rows MEntry) (s : Rest) : Type 0
   pub reads : (text : List ℕ) → EndsIn text r → level_of r.bytes.now ≡ Some (map (mchunk_in text) new, s.bytes.now)
 
 abbrev pub LevelInto : Rest → Rows MEntry → Rows MEntry → Option Rest → Type 0
-LevelInto r before after None = (level_of r.bytes.now ≡ None) × (rows_of after ≡ rows_of before)
+LevelInto r before after None = (level_of r.bytes.now ≡ None) × (after ≡ before)
 LevelInto r before after (Some s) = LevelRead r before after s
 
 -- both tables keep what they held
@@ -49,7 +49,7 @@ pub record LevelsRead (r : Rest) (m m' : Mess) (s : Rest) : Type 0 where
       → levels_by level_of k r.bytes.now ≡ Some (levels_from (mchunks_in text m'.chunks) (length (rows_of m.chunks)) kept.new, s.bytes.now)
 
 abbrev pub LevelsInto : Rest → Mess → Mess → Option Rest → Type 0
-LevelsInto r m m' None = (level_of r.bytes.now ≡ None) × (rows_of m'.chunks ≡ rows_of m.chunks) × (rows_of m'.levels ≡ rows_of m.levels)
+LevelsInto r m m' None = (level_of r.bytes.now ≡ None) × (m'.chunks ≡ m.chunks) × (m'.levels ≡ m.levels)
 LevelsInto r m m' (Some s) = LevelsRead r m m' s
 
 -- the further levels, which go on from a level that ends with the table of MChunks

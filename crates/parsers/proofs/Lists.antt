@@ -7,7 +7,7 @@ use Rattle.std.proofs.lemmas.List.{drop_more, drop_all, map_push, length_push, g
 use Rattle.std.proofs.lemmas.Bool.{cond-true, cond-false, eq-eqb, ne_eqb, lt-ltb, cases_lt}
 use Rattle.texts.specs.declared.table.Rows.{Rows}
 use Rattle.parsers.specs.Reading.{Reader, push, behind_of, many_of, dotted_of, spelled_of}
-use Rattle.texts.specs.Tables.{rows_of, pushed, Taken}
+use Rattle.texts.specs.Tables.{rows_of, with_row, Taken}
 use Rattle.parsers.specs.Places.{Part, said_in, Gives, PerhapsGives, Marked, perhaps_read}
 
 -- parts read before what a reader goes on with
@@ -46,10 +46,20 @@ pub record Joined {P : Type 0} (p : Part P) (text : List ℕ) (at end : ℕ) (ro
   pub sofar : dotted_of p.reader (drop at text) ≡ Some (glue (map (p.says text) rows) (many_of (behind_of 46 p.reader) fuel (drop end text)))
 
 module _ {P : Type 0} {p : Part P} {text : List ℕ} where
+  pub start : (at end : ℕ) (e : P) → Gives (p.says text) p.reader text at (Some (e, end)) → Joined p text at end (e ∷ [])
+  start at end e g = record {
+    past = g.1;
+    fits = g.2;
+    room = omega (arith, g.1);
+    fuel = length (drop end text);
+    enough = omega (arith, length-drop end text);
+    sofar = rw g.0 refl;
+  }
+
   module _ {at end : ℕ} {rows : List P} (j : Joined p text at end rows) where
-    pub more : length text ≤ 128 → (behind to : ℕ) (e : P) → Marked 46 text end (Some behind) → Gives (p.says text) p.reader text behind (Some (e, to)) → Joined p text at to (pushed rows e)
+    pub more : length text ≤ 128 → (behind to : ℕ) (e : P) → Marked 46 text end (Some behind) → Gives (p.says text) p.reader text behind (Some (e, to)) → Joined p text at to (with_row rows e)
     more short behind to e m g =
-        let is : pushed rows e ≡ rows ++ e ∷ [] = cond-true _ _ _ (lt-ltb (length rows) 64 (omega (arith, j.room, j.past, m.2, g.1, g.2))) in
+        let is : with_row rows e ≡ rows ++ e ∷ [] = cond-true _ _ _ (lt-ltb (length rows) 64 (omega (arith, j.room, j.past, m.2, g.1, g.2))) in
         let s = many_step (behind_of 46 p.reader) j.fuel (drop end text) (p.says text e) (drop to text) (omega (arith, j.enough, m.0)) (behind_mark p.reader text 46 end behind m ∙ g.0) in
         subst (Joined p text at to) (sym is) (record {
           past = omega (arith, j.past, m.2, g.1);

@@ -1,5 +1,5 @@
 -- What places and tables say of a text. Assumes nothing.
-use Rattle.std.specs.Prelude.{◌≡◌, ℕ, ◌<◌, ◌≤◌, cond, List, [], ◌∷◌, ◌++◌, length, take, Some, None, Option, nat_lt, slice_index_or}
+use Rattle.std.specs.Prelude.{◌≡◌, ℕ, ◌+◌, ◌<◌, ◌≤◌, cond, List, [], ◌∷◌, ◌++◌, length, take, replicate, Some, None, Option, nat_lt, slice_index_or, slice_set}
 use Rattle.std.specs.List.{between}
 use Rattle.texts.specs.declared.table.Span.{Span}
 use Rattle.texts.specs.declared.table.Rows.{Rows}
@@ -13,8 +13,16 @@ abbrev pub rows_of : {T : Type 0} → Rows T → List T
 rows_of t = take t.count t.rows
 
 -- one row more at the end, where there is room for 64
-abbrev pub pushed : {T : Type 0} → List T → T → List T
-pushed rows x = cond (nat_lt (length rows) 64) (rows ++ x ∷ []) rows
+abbrev pub with_row : {T : Type 0} → List T → T → List T
+with_row rows x = cond (nat_lt (length rows) 64) (rows ++ x ∷ []) rows
+
+-- a table of no rows: its room filled
+abbrev pub blank_rows : {T : Type 0} → T → Rows T
+blank_rows x = record { rows = replicate 64 x; count = 0 }
+
+-- a table with one row more, where there is room: the rest of the room stays, and a full table is the same
+abbrev pub pushed : {T : Type 0} → Rows T → T → Rows T
+pushed t x = cond (nat_lt t.count 64) (record { rows = slice_set t.rows t.count x; count = t.count + 1 }) t
 
 -- the element at an index, if there is one
 abbrev pub Taken : {X : Type 0} → List X → ℕ → Option X → Type 0

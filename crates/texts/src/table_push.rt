@@ -1,6 +1,6 @@
 ghost use Rattle.std.specs.Prelude.{◌≡◌, ◌<◌, ◌≤◌, true, [], length, take, is_some};
 ghost use Rattle.std.specs.List.{between};
-ghost use Rattle.texts.specs.Tables.{bytes_in, rows_of, pushed, Taken, Popped};
+ghost use Rattle.texts.specs.Tables.{bytes_in, rows_of, with_row, blank_rows, pushed, Taken, Popped};
 
 use crate::table::{Rows, Span};
 
@@ -15,7 +15,8 @@ fn clipped<T>(items: &[T], from: usize, to: usize) -> &[T]
 impl<T: Copy> Rows<T> {
     /// A table of no rows; `blank` fills the room.
     pub fn new(blank: T) -> Rows<T>
-        ensures { rows_of result ≡ [] }
+        ensures none { rows_of result ≡ [] }
+        ensures whole { result ≡ blank_rows blank }
     {
         Rows {
             rows: [blank; 64],
@@ -33,7 +34,8 @@ impl<T: Copy> Rows<T> {
 
     /// One row more at the end; a full table stays as it is.
     pub fn push(&mut self, row: T)
-        ensures { rows_of self.new ≡ pushed (rows_of self.old) row }
+        ensures rows { rows_of self.new ≡ with_row (rows_of self.old) row }
+        ensures whole { self.new ≡ pushed self.old row }
     {
         if self.count < 64 {
             self.rows[self.count as usize] = row;
