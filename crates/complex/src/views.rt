@@ -5,6 +5,7 @@ ghost use Rattle.std.specs.Option.{option_map};
 ghost use Rattle.texts.specs.Tables.{Taken};
 ghost use Rattle.mess.specs.Labels.{mchunks_in, parts_in};
 ghost use Rattle.mess.specs.Said.{says};
+ghost use Rattle.mess.specs.Tables.{sliced};
 ghost use Rattle.complex.specs.Views.{parts_of, level_in, signed_in};
 
 use mess::mchunk::MChunk;
@@ -86,5 +87,13 @@ impl<'a> LevelIn<'a> {
     {
         let entry = self.chunks.get(i)?;
         Some(MChunk::new(self.text, *entry))
+    }
+
+    /// The MChunk at an index, if there is one, with its run as a slice of the label.
+    pub fn get_sliced(&self, i: usize) -> Option<MChunk<&'a [u8]>>
+        ensures { Taken (level_in self.now) i (option_map sliced result) }
+    {
+        let place = self.chunks.get(i)?;
+        Some(place.in_text(self.text))
     }
 }

@@ -1,5 +1,6 @@
 -- What the code's MChunks and tables say of a text. Assumes nothing.
 use Rattle.std.specs.Prelude.{ℕ, List}
+use Rattle.std.specs.Borrow.{Bor}
 use Rattle.texts.specs.declared.table.Span.{Span}
 use Rattle.texts.specs.Tables.{bytes_in}
 use Rattle.mess.specs.declared.mchunk.MChunk.{MChunk as Lent}
@@ -15,6 +16,10 @@ said_by run (Plain s) = plain (run s)
 -- an MChunk of a table
 abbrev pub MEntry : Type 0
 MEntry = Lent Span
+
+-- an MChunk with its run as a slice of the label
+abbrev pub sliced : Lent (Bor (List ℕ)) → MChunk
+sliced c = said_by (λ s. s.now) c
 
 -- an MChunk of a table, with its text
 abbrev pub mchunk_in : List ℕ → MEntry → MChunk

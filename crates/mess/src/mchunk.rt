@@ -3,7 +3,7 @@ ghost use Rattle.std.specs.Prelude.{◌≡◌, ℕ, List};
 ghost use Rattle.texts.specs.Tables.{bytes_in};
 ghost use Rattle.mess.specs.Reading.{mchunk_of};
 ghost use Rattle.mess.specs.Classes.{settled};
-ghost use Rattle.mess.specs.Tables.{said_by, mchunk_in, text_of};
+ghost use Rattle.mess.specs.Tables.{said_by, sliced, mchunk_in, text_of};
 ghost use Rattle.mess.specs.Rests.{GivesIn};
 ghost use Rattle.mess.specs.Order.{mchunk_order, Ring, NotStrict};
 ghost use Rattle.mess.specs.Said.{says, mchunkwise};
@@ -66,6 +66,17 @@ impl MChunk<Span> {
             to: behind.from as u8,
         };
         Some((entry(class, span, behind.bytes), behind))
+    }
+
+    /// What an MChunk of a table is in its text, its run as a slice of it.
+    pub fn in_text<'a>(&self, text: &'a [u8]) -> MChunk<&'a [u8]>
+        ensures { sliced result ≡ mchunk_in text.now self.now }
+    {
+        match *self {
+            MChunk::Digits(number, span) => MChunk::Digits(number, span.bytes(text)),
+            MChunk::Rev(number, span) => MChunk::Rev(number, span.bytes(text)),
+            MChunk::Plain(span) => MChunk::Plain(span.bytes(text)),
+        }
     }
 
     /// The run itself, in its text.
