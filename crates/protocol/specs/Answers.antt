@@ -22,13 +22,13 @@ pub data Said : Type 0 where
   read : ℕ → standard.Parts → Said
   order : Ordering → Said
 
--- the parts' places are in the text beside them
-abbrev pub said : Result Answer Refusal → Said
-said (Ok (Parts text semver)) = parts (parts_in text.now semver)
-said (Ok (Read count text semver)) = read count (parts_in text.now semver)
-said (Ok (Order o)) = order o
-said (Err Bad) = bad
-said (Err (Label fault)) = refused fault
+-- the parts' places are in the text
+abbrev pub said_in : List ℕ → Result Answer Refusal → Said
+said_in text (Ok (Parts semver)) = parts (parts_in text semver)
+said_in text (Ok (Read count semver)) = read count (parts_in text semver)
+said_in text (Ok (Order o)) = order o
+said_in text (Err Bad) = bad
+said_in text (Err (Label fault)) = refused fault
 
 -- a refusal ends it
 abbrev pub unless_refused : {X : Type 0} → Result X LabelFault → (X → Said) → Said

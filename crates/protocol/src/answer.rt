@@ -7,12 +7,12 @@ use fault::LabelFault;
 use ideals::semver::SemVer;
 use std::cmp::Ordering;
 
-/// An answer; the places of its parts are in the text beside them.
+/// An answer; the places of its parts are in the text that was read.
 #[derive(Clone, Copy)]
-pub enum Answer<'a> {
-    Parts(&'a [u8], SemVer),
+pub enum Answer {
+    Parts(SemVer),
     /// The bytes read, and the parts.
-    Read(usize, &'a [u8], SemVer),
+    Read(usize, SemVer),
     Order(Ordering),
 }
 

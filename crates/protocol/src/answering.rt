@@ -1,6 +1,6 @@
 //! The answer of each command.
 ghost use Rattle.std.specs.Prelude.{◌≡◌};
-ghost use Rattle.protocol.specs.Answers.{said, new_answer, parse_answer, compare_answer};
+ghost use Rattle.protocol.specs.Answers.{said_in, new_answer, parse_answer, compare_answer};
 
 use crate::answer::{Answer, Refusal};
 use crate::asked::Form;
@@ -8,37 +8,37 @@ use ideals::ideal::IdealIn;
 use ideals::semver::SemVer;
 
 /// `new`: the parts of the label that a text is.
-pub fn answer_new(form: Form, text: &[u8]) -> Result<Answer<'_>, Refusal>
-    ensures { said result ≡ new_answer form text.now }
+pub fn answer_new(form: Form, text: &[u8]) -> Result<Answer, Refusal>
+    ensures { said_in text.now result ≡ new_answer form text.now }
 {
     match form {
-        Form::SemVer => Ok(Answer::Parts(text, SemVer::new(text)?)),
+        Form::SemVer => Ok(Answer::Parts(SemVer::new(text)?)),
     }
 }
 
 /// `parse`: the bytes read and the parts of the label in front of a text.
-pub fn answer_parse(form: Form, text: &[u8]) -> Result<Answer<'_>, Refusal>
-    ensures { said result ≡ parse_answer form text.now }
+pub fn answer_parse(form: Form, text: &[u8]) -> Result<Answer, Refusal>
+    ensures { said_in text.now result ≡ parse_answer form text.now }
 {
     match form {
         Form::SemVer => {
             let (semver, count) = SemVer::parse(text)?;
-            Ok(Answer::Read(count, text, semver))
+            Ok(Answer::Read(count, semver))
         }
     }
 }
 
 /// `cmpf`: how two labels of a form compare.
-pub fn answer_compare<'a>(form: Form, first: &[u8], second: &[u8]) -> Result<Answer<'a>, Refusal>
-    ensures { said result ≡ compare_answer form first.now second.now }
+pub fn answer_compare(form: Form, first: &[u8], second: &[u8]) -> Result<Answer, Refusal>
+    ensures { said_in first.now result ≡ compare_answer form first.now second.now }
 {
     match form {
         Form::SemVer => compare_semver(first, second),
     }
 }
 
-fn compare_semver<'a>(first: &[u8], second: &[u8]) -> Result<Answer<'a>, Refusal>
-    ensures { said result ≡ compare_answer (Form.SemVer) first.now second.now }
+fn compare_semver(first: &[u8], second: &[u8]) -> Result<Answer, Refusal>
+    ensures { said_in first.now result ≡ compare_answer (Form.SemVer) first.now second.now }
 {
     let a = SemVer::new(first)?;
     let b = SemVer::new(second)?;

@@ -1,5 +1,6 @@
 //! Reading a line.
 ghost use Rattle.std.specs.Prelude.{◌≡◌, Some, None, MatchResult};
+ghost use Rattle.lines.specs.Split.{word_of, rest_of};
 ghost use Rattle.protocol.specs.Commands.{asked, found, form_of, known_of, command_of};
 
 use crate::asked::{BadCommand, Command, Form};
@@ -17,17 +18,26 @@ fn form_named(name: &[u8]) -> Result<Form, BadCommand>
     }
 }
 
+// The form that stands first in the fields of a command, and what stands behind it.
+fn with_form(fields: &[u8]) -> Result<(Form, &[u8]), BadCommand>
+    ensures { MatchResult result (λ x. (form_of (word_of fields.now) ≡ Some x.0) × (x.1.now ≡ rest_of fields.now)) (λ _. form_of (word_of fields.now) ≡ None) }
+{
+    let (name, texts) = split_blank(fields);
+    Ok((form_named(name)?, texts))
+}
+
 // The command that a first word names, with what stands behind it: `new FORM T`, `parse FORM T` or `cmpf FORM T1 T2`.
 fn known<'a>(word: &[u8], fields: &'a [u8]) -> Result<Command<'a>, BadCommand>
     ensures { found result ≡ known_of word.now fields.now }
 {
-    let (name, texts) = split_blank(fields);
-    let form = form_named(name)?;
     if word == b"new".as_slice() {
-        Ok(Command::New(form, texts))
+        let (form, text) = with_form(fields)?;
+        Ok(Command::New(form, text))
     } else if word == b"parse".as_slice() {
-        Ok(Command::Parse(form, texts))
+        let (form, text) = with_form(fields)?;
+        Ok(Command::Parse(form, text))
     } else if word == b"cmpf".as_slice() {
+        let (form, texts) = with_form(fields)?;
         let (first, second) = split_blank(texts);
         Ok(Command::Compare(form, first, second))
     } else {

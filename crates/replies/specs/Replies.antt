@@ -1,11 +1,19 @@
 -- What is written for a line. Assumes nothing.
-use Rattle.std.specs.Prelude.{ℕ, cond, List, [], length, Some, None, Option, nat_le}
+use Rattle.std.specs.Prelude.{ℕ, cond, List, [], length, Ok, Err, Result, Some, None, Option, nat_le}
+use Rattle.std.specs.Borrow.{Bor}
 use Rattle.lines.specs.Hex.{unhexed}
 use Rattle.protocol.specs.Commands.{Asked, silent, new, parse, compare, command_of}
 use Rattle.lines.specs.Line.{comment}
 use Rattle.protocol.specs.Commands as commands
-use Rattle.protocol.specs.Answers.{Said, bad, new_answer, parse_answer, compare_answer}
+use Rattle.protocol.specs.declared.answer.Answer.{Answer}
+use Rattle.protocol.specs.declared.answer.Refusal.{Refusal}
+use Rattle.protocol.specs.Answers.{Said, bad, said_in, new_answer, parse_answer, compare_answer}
 use Rattle.replies.specs.Written.{line_of}
+
+-- an answer beside the text in which its parts are
+abbrev pub answered : Result (Bor (List ℕ) × Answer) Refusal → Said
+answered (Ok (text, answer)) = said_in text.now (Ok answer)
+answered (Err refusal) = said_in [] (Err refusal)
 
 abbrev pub fitting : ℕ → Option (List ℕ) → Option (List ℕ)
 fitting room None = None

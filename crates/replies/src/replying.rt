@@ -1,10 +1,9 @@
 //! The reply to a line.
 ghost use Rattle.std.specs.Prelude.{◌≡◌, Some, None, length, MatchResult};
-ghost use Rattle.protocol.specs.Answers.{said};
 ghost use Rattle.protocol.specs.Commands.{found};
 ghost use Rattle.written.specs.Written.{Adds};
 ghost use Rattle.replies.specs.Written.{line_of};
-ghost use Rattle.replies.specs.Replies.{text_within, reply, reply_to, passed_over};
+ghost use Rattle.replies.specs.Replies.{answered, text_within, reply, reply_to, passed_over};
 
 use crate::writing::write_answer;
 use lines::hex::unhex;
@@ -30,21 +29,27 @@ fn text_in<'a>(hex: &[u8], room: &'a mut [u8]) -> Result<&'a [u8], BadCommand>
     Ok(&room[..count])
 }
 
-// What a command is answered.
+// What a command is answered, with the text in which its parts are.
 fn answer<'a>(
     asked: Result<Command<'_>, BadCommand>,
     rooms: Rooms<'a>,
-) -> Result<Answer<'a>, Refusal>
-    ensures { line_of (said result) ≡ reply (length rooms.entry.one.now) (length rooms.entry.other.now) (found asked.entry) }
+) -> Result<(&'a [u8], Answer), Refusal>
+    ensures { line_of (answered result) ≡ reply (length rooms.entry.one.now) (length rooms.entry.other.now) (found asked.entry) }
 {
     let Rooms { one, other } = rooms;
     match asked? {
-        Command::New(form, hex) => answer_new(form, text_in(hex, one)?),
-        Command::Parse(form, hex) => answer_parse(form, text_in(hex, one)?),
+        Command::New(form, hex) => {
+            let text = text_in(hex, one)?;
+            Ok((text, answer_new(form, text)?))
+        }
+        Command::Parse(form, hex) => {
+            let text = text_in(hex, one)?;
+            Ok((text, answer_parse(form, text)?))
+        }
         Command::Compare(form, first, second) => {
             let s = text_in(first, one)?;
             let t = text_in(second, other)?;
-            answer_compare(form, s, t)
+            Ok((s, answer_compare(form, s, t)?))
         }
     }
 }
@@ -54,7 +59,7 @@ pub fn reply(out: &mut Vec<u8>, line: &[u8], rooms: Rooms<'_>) -> Result<(), All
     ensures { Adds result out.old.items out.new.items (reply_to (length rooms.entry.one.now) (length rooms.entry.other.now) line.now) }
 {
     match command(line) {
-        Some(asked) => write_answer(out, answer(asked, rooms)),
+        Some(asked) => write_answer(out, &answer(asked, rooms)),
         None => Ok(()),
     }
 }
@@ -66,6 +71,6 @@ pub fn pass_over(out: &mut Vec<u8>, front: &[u8]) -> Result<(), AllocError>
     if is_comment(front) {
         Ok(())
     } else {
-        write_answer(out, Err(Refusal::Bad))
+        write_answer(out, &Err(Refusal::Bad))
     }
 }

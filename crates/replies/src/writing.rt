@@ -1,8 +1,8 @@
 //! Writing an answer.
 ghost use Rattle.std.specs.Prelude.{◌≡◌};
 ghost use Rattle.ideals.specs.Views.{parts_of};
-ghost use Rattle.protocol.specs.Answers.{said};
 ghost use Rattle.written.specs.Written.{Adds};
+ghost use Rattle.replies.specs.Replies.{answered};
 ghost use Rattle.replies.specs.Written.{read_text, order_name, order_text, fault_text, refusal_text, said_text, line_of};
 
 use fault::{LabelFault, Layer};
@@ -59,26 +59,29 @@ fn write_refusal(out: &mut Vec<u8>, fault: LabelFault) -> Result<(), AllocError>
     write_fault(out, fault)
 }
 
-fn write_said(out: &mut Vec<u8>, answer: Result<Answer<'_>, Refusal>) -> Result<(), AllocError>
-    ensures { Adds result out.old.items out.new.items (said_text (said answer.entry)) }
+fn write_said<'a>(
+    out: &mut Vec<u8>,
+    answer: &'a Result<(&'a [u8], Answer), Refusal>,
+) -> Result<(), AllocError>
+    ensures { Adds result out.old.items out.new.items (said_text (answered answer.now)) }
 {
-    match answer {
-        Ok(Answer::Parts(text, ref semver)) => IdealIn { text, semver }.write(out),
-        Ok(Answer::Read(count, text, ref semver)) => {
+    match *answer {
+        Ok((text, Answer::Parts(ref semver))) => IdealIn { text, semver }.write(out),
+        Ok((text, Answer::Read(count, ref semver))) => {
             write_read(out, count, IdealIn { text, semver })
         }
-        Ok(Answer::Order(order)) => write_order(out, order),
+        Ok((_, Answer::Order(order))) => write_order(out, order),
         Err(Refusal::Bad) => out.extend_from_slice(b"bad command"),
         Err(Refusal::Label(fault)) => write_refusal(out, fault),
     }
 }
 
-/// Adds the line of an answer.
-pub fn write_answer(
+/// Adds the line of an answer; the places of its parts are in the text beside it.
+pub fn write_answer<'a>(
     out: &mut Vec<u8>,
-    answer: Result<Answer<'_>, Refusal>,
+    answer: &'a Result<(&'a [u8], Answer), Refusal>,
 ) -> Result<(), AllocError>
-    ensures { Adds result out.old.items out.new.items (line_of (said answer.entry)) }
+    ensures { Adds result out.old.items out.new.items (line_of (answered answer.now)) }
 {
     write_said(out, answer)?;
     out.push(b'\n')?;
