@@ -56,8 +56,8 @@ fn parts(rt: &HostRuntime, label: &IdealIn<'_>) -> io::Result<()> {
 
 fn identifiers(rt: &HostRuntime, release: &ChunksIn<'_>) -> io::Result<()> {
     println!(rt; "  Release:")?;
-    for chunk in release.chunks.as_slice() {
-        match chunk.in_text(release.text) {
+    for chunk in (0..release.len()).map_while(|i| release.get(i)) {
+        match chunk {
             Chunk::Numeric(number) => println!(rt; "    number {number}")?,
             Chunk::Alphanum(text) => println!(rt; "    text {}", shown(rt.alloc(), text)?)?,
         }
