@@ -58,7 +58,7 @@ impl Class for AlphabeticOrHyphen {
 }
 
 /// Digits, and the bytes of another class.
-pub struct OrDigit<Q>(PhantomData<Q>);
+pub struct OrDigit<Q>(pub PhantomData<Q>);
 
 impl<Q: Class> Class for OrDigit<Q> {
     ghost class = { or_digit Q.class };
