@@ -25,7 +25,7 @@ pub enum Chunk<T> {
 }
 
 // The reader of a chunk is inlined into the loop over a list of them: without the hints a General of many chunks is read in up to
-// a sixth more instructions.
+// a fifth more instructions.
 
 /// Whether a byte of a class is among some bytes.
 #[inline(always)]
